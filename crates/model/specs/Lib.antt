@@ -1,0 +1,11 @@
+pub mod Row
+pub mod Task
+pub mod State
+pub mod Code
+pub mod Plan
+pub mod Service
+pub mod Effect
+pub mod Call
+pub mod Test
+pub mod Bench
+pub mod Sound

@@ -1,0 +1,16 @@
+-- `records::row_of` meets its contract: by what is waited for.
+use borrow.Author.Tests.{eq-eqb, ne-eqb}
+use Rattle.model.specs.Task.{rowOf}
+use Rattle.records.proofs.row_of.Statement.{statement}
+use Rattle.records.proofs.row_of.Tie as tie
+
+returns : tie.Need-returns
+unfolding rowOf
+returns c = rw (eq-eqb _ _ (c .if1 .taken))
+
+returns-2 : tie.Need-returns-2
+unfolding rowOf
+returns-2 c = rw (ne-eqb _ _ (c .if1 .left))
+
+pub row-of-spec : {M : Type 1} → statement M
+row-of-spec = tie.close (tie.spec returns returns-2)
