@@ -1,0 +1,4 @@
+pub mod Number
+pub mod Row
+pub mod Table
+pub mod Relisted
