@@ -2,18 +2,16 @@
 -- They rest on the definitions of model/specs/Row alone, and hold for tables of any length.
 use mathlib.Core.Path.{_≡_, refl, sym, ap, _∙_}
 use mathlib.Core.List.{List, [], _∷_, _++_, append-assoc, append-nil}
-use mathlib.Core.Bool.{Bool, true, false, cond}
-use mathlib.Core.Logic.{_⊎_, inl, inr, ⊎-elim}
-use Prim.Native.Nat.{ℕ, zero, suc, _+_, _*_, _-_, _≤_, _<_, min}
+use mathlib.Core.Logic.{⊎-elim}
+use Prim.Native.Nat.{ℕ, suc, _+_, _*_, _-_, _≤_, _<_, min}
 use native.Mathlib.Nat.{add-zero}
 use native.Mathlib.Numerals.{add-one}
 use native.Mathlib.Omega.{arith}
-use lib.Dec.{eqb}
 use lib.ListN.{length, take, drop, getD, length-append, length-take, length-drop, take-append-drop, drop-of-length-le}
 use lib.Seq.{take-all, take-length, drop-length, take-append-le, drop-append-le, take-at, drop-at, drop-append-add, getD-take, getD-drop}
 use borrow.Author.Tests.{eq-eqb, ne-eqb}
 use Rattle.model.specs.Row.{first, row, firstOf, withRow, bestFrom}
-use Rattle.laws.proofs.Number.{same?, below?}
+use Rattle.laws.proofs.Number.{below?}
 
 -- ---- one row
 pub length-row : (ls : List ℕ) (l : ℕ) → length (row ls l) ≡ min 24 (length ls - l * 24)

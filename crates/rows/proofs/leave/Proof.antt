@@ -1,7 +1,7 @@
 -- `rows::leave` meets its contract: the gap moves up to the last place.
 -- It rests on `rows::place` and the laws of a gap in laws/Row.
 use mathlib.Core.Path.{_≡_, refl, sym, _∙_}
-use Prim.Native.Nat.{_≤_, _<_, _-_, _+_, suc}
+use Prim.Native.Nat.{_<_, _-_}
 use native.Mathlib.Omega.{arith}
 use lib.ListN.{length, length-set}
 use borrow.Author.Needs.{needs}
