@@ -1,0 +1,135 @@
+// The plans of the services on semaphores, in the order of document 01.
+// Each function is a definition of model/specs/Service, for every value; it rests on checks and records.
+ghost use mathlib.Core.Path.{_≡_};
+ghost use Rattle.model.specs.Service.{semCreate, semDelete, signal, acquire, polling};
+use checks::{answers, does, is_maximum, is_semaphore, is_timeout, refused};
+use model::{Code, Effect, Plan, Semaphore, Task};
+use records::{ended, waiting};
+
+pub fn sem_create(mine: bool, semaphore: u32, start: u32, maximum: u32, x: Semaphore) -> Plan
+    ensures { λ r. ⌜ r ≡ semCreate mine semaphore start maximum x ⌝ }
+{
+    let made = x.maximum;
+    let numbered = is_semaphore(semaphore);
+    if !numbered {
+        return refused(Code::WrongParam);
+    }
+    let bounded = is_maximum(maximum);
+    if !bounded {
+        return refused(Code::WrongParam);
+    }
+    if maximum < start {
+        return refused(Code::WrongParam);
+    }
+    if made != 0 {
+        return refused(Code::WrongParam);
+    }
+    if !mine {
+        return refused(Code::WContext);
+    }
+    let m = semaphore as u8;
+    let n = start as u16;
+    let v = maximum as u16;
+    does(Effect::Counts { semaphore: m, count: n, maximum: v })
+}
+
+pub fn sem_delete(mine: bool, semaphore: u32, x: Semaphore) -> Plan
+    ensures { λ r. ⌜ r ≡ semDelete mine semaphore x ⌝ }
+{
+    let maximum = x.maximum;
+    let numbered = is_semaphore(semaphore);
+    if !numbered {
+        return refused(Code::WrongParam);
+    }
+    if maximum == 0 {
+        return refused(Code::NoExs);
+    }
+    if !mine {
+        return refused(Code::WContext);
+    }
+    let m = semaphore as u8;
+    does(Effect::Deletes { semaphore: m })
+}
+
+// k is the record of the first waiter.
+pub fn signal(mine: bool, semaphore: u32, k: Task, x: Semaphore) -> Plan
+    ensures { λ r. ⌜ r ≡ signal mine semaphore k x ⌝ }
+{
+    let count = x.count;
+    let maximum = x.maximum;
+    let first = x.first;
+    let numbered = is_semaphore(semaphore);
+    if !numbered {
+        return refused(Code::WrongParam);
+    }
+    if maximum == 0 {
+        return refused(Code::NoExs);
+    }
+    if !mine {
+        return refused(Code::WContext);
+    }
+    if first != 0 {
+        let record = ended(k, 0);
+        return does(Effect::Moves { task: first, record: record });
+    }
+    if count < maximum {
+        let m = semaphore as u8;
+        let n = count + 1;
+        return does(Effect::Counts { semaphore: m, count: n, maximum: maximum });
+    }
+    refused(Code::Overflow)
+}
+
+pub fn acquire(mine: bool, semaphore: u32, timeout: u32, run: u8, k: Task, x: Semaphore) -> Plan
+    ensures { λ r. ⌜ r ≡ acquire mine semaphore timeout run k x ⌝ }
+{
+    let count = x.count;
+    let maximum = x.maximum;
+    let numbered = is_semaphore(semaphore);
+    if !numbered {
+        return refused(Code::WrongParam);
+    }
+    let timed = is_timeout(timeout);
+    if !timed {
+        return refused(Code::WrongParam);
+    }
+    if maximum == 0 {
+        return refused(Code::NoExs);
+    }
+    if !mine {
+        return refused(Code::WContext);
+    }
+    if run == 0 {
+        return refused(Code::WContext);
+    }
+    let m = semaphore as u8;
+    if count == 0 {
+        let record = waiting(k, 2, m, timeout);
+        return answers(Code::Pending, Effect::Moves { task: run, record: record });
+    }
+    let n = count - 1;
+    does(Effect::Counts { semaphore: m, count: n, maximum: maximum })
+}
+
+pub fn polling(mine: bool, semaphore: u32, x: Semaphore) -> Plan
+    ensures { λ r. ⌜ r ≡ polling mine semaphore x ⌝ }
+{
+    let count = x.count;
+    let maximum = x.maximum;
+    let numbered = is_semaphore(semaphore);
+    if !numbered {
+        return refused(Code::WrongParam);
+    }
+    if maximum == 0 {
+        return refused(Code::NoExs);
+    }
+    if !mine {
+        return refused(Code::WContext);
+    }
+    if count == 0 {
+        return refused(Code::Timeout);
+    }
+    let m = semaphore as u8;
+    let n = count - 1;
+    does(Effect::Counts { semaphore: m, count: n, maximum: maximum })
+}

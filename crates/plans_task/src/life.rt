@@ -1,0 +1,123 @@
+// The plans of the services that create, delete, start and stop a task.
+// Each function is a definition of model/specs/Service, for every value; it rests on checks and records.
+ghost use mathlib.Core.Path.{_≡_};
+ghost use Rattle.model.specs.Service.{create, delete, activate, exit, terminate};
+use checks::{does, is_priority, is_task, refused};
+use model::{Code, Effect, Plan, Task};
+use records::{activated, created, no_task, with_activations};
+
+pub fn create(mine: bool, task: u32, priority: u32, option: u32, k: Task) -> Plan
+    ensures { λ r. ⌜ r ≡ create mine task priority option k ⌝ }
+{
+    let base = k.base;
+    let numbered = is_task(task);
+    if !numbered {
+        return refused(Code::WrongParam);
+    }
+    let ranked = is_priority(priority);
+    if !ranked {
+        return refused(Code::WrongParam);
+    }
+    if 1 < option {
+        return refused(Code::WrongParam);
+    }
+    if base != 0 {
+        return refused(Code::WrongParam);
+    }
+    if !mine {
+        return refused(Code::WContext);
+    }
+    let t = task as u8;
+    let p = priority as u8;
+    let o = option as u8;
+    let record = created(p, o);
+    does(Effect::Moves { task: t, record: record })
+}
+
+pub fn delete(mine: bool, task: u32, k: Task) -> Plan
+    ensures { λ r. ⌜ r ≡ delete mine task k ⌝ }
+{
+    let base = k.base;
+    let active = k.active;
+    let numbered = is_task(task);
+    if !numbered {
+        return refused(Code::WrongParam);
+    }
+    if base == 0 {
+        return refused(Code::NoExs);
+    }
+    if !mine {
+        return refused(Code::WContext);
+    }
+    if active != 0 {
+        return refused(Code::WContext);
+    }
+    let t = task as u8;
+    let record = no_task();
+    does(Effect::Moves { task: t, record: record })
+}
+
+pub fn activate(mine: bool, task: u32, k: Task) -> Plan
+    ensures { λ r. ⌜ r ≡ activate mine task k ⌝ }
+{
+    let base = k.base;
+    let active = k.active;
+    let activations = k.activations;
+    let numbered = is_task(task);
+    if !numbered {
+        return refused(Code::WrongParam);
+    }
+    if base == 0 {
+        return refused(Code::NoExs);
+    }
+    if !mine {
+        return refused(Code::WContext);
+    }
+    let t = task as u8;
+    if active == 0 {
+        let record = activated(k);
+        return does(Effect::Moves { task: t, record: record });
+    }
+    if activations != 0 {
+        return refused(Code::Overflow);
+    }
+    let record = with_activations(k, 1);
+    does(Effect::Moves { task: t, record: record })
+}
+
+pub fn exit(mine: bool, run: u8) -> Plan
+    ensures { λ r. ⌜ r ≡ exit mine run ⌝ }
+{
+    if !mine {
+        return refused(Code::WContext);
+    }
+    if run == 0 {
+        return refused(Code::WContext);
+    }
+    does(Effect::Stops { task: run })
+}
+
+pub fn terminate(mine: bool, task: u32, run: u8, k: Task) -> Plan
+    ensures { λ r. ⌜ r ≡ terminate mine task run k ⌝ }
+{
+    let base = k.base;
+    let active = k.active;
+    let numbered = is_task(task);
+    if !numbered {
+        return refused(Code::WrongParam);
+    }
+    if base == 0 {
+        return refused(Code::NoExs);
+    }
+    if !mine {
+        return refused(Code::WContext);
+    }
+    let t = task as u8;
+    if t == run {
+        return refused(Code::WContext);
+    }
+    if active == 0 {
+        return refused(Code::WContext);
+    }
+    does(Effect::Stops { task: t })
+}

@@ -1,0 +1,76 @@
+// The plans of the services that change a priority and a level's slice, and of the tick.
+// Each function is a definition of model/specs/Service, for every value; it rests on checks and records.
+ghost use mathlib.Core.Path.{_≡_};
+ghost use Rattle.model.specs.Service.{wanted, changePriority, tsliceTicks, tick};
+use checks::{does, is_priority, is_slice, is_task, refused};
+use model::{Code, Effect, Plan, Task};
+use records::with_priority;
+
+pub fn wanted(priority: u8, k: Task) -> u8
+    ensures { λ r. ⌜ r ≡ wanted priority k ⌝ }
+{
+    if priority == 0 {
+        return k.base;
+    }
+    priority
+}
+
+pub fn change_priority(mine: bool, task: u32, priority: u32, k: Task) -> Plan
+    ensures { λ r. ⌜ r ≡ changePriority mine task priority k ⌝ }
+{
+    let base = k.base;
+    let active = k.active;
+    let current = k.priority;
+    let numbered = is_task(task);
+    if !numbered {
+        return refused(Code::WrongParam);
+    }
+    if 30 < priority {
+        return refused(Code::WrongParam);
+    }
+    if base == 0 {
+        return refused(Code::NoExs);
+    }
+    if !mine {
+        return refused(Code::WContext);
+    }
+    if active == 0 {
+        return refused(Code::WContext);
+    }
+    let t = task as u8;
+    let p = priority as u8;
+    let next = wanted(p, k);
+    if next == current {
+        return does(Effect::Nothing);
+    }
+    let record = with_priority(k, next);
+    does(Effect::Moves { task: t, record: record })
+}
+
+pub fn tslice_ticks(mine: bool, level: u32, slice: u32) -> Plan
+    ensures { λ r. ⌜ r ≡ tsliceTicks mine level slice ⌝ }
+{
+    let ranked = is_priority(level);
+    if !ranked {
+        return refused(Code::WrongParam);
+    }
+    let sliced = is_slice(slice);
+    if !sliced {
+        return refused(Code::WrongParam);
+    }
+    if !mine {
+        return refused(Code::WContext);
+    }
+    let l = level as u8;
+    let v = slice as u16;
+    does(Effect::Slices { level: l, slice: v })
+}
+
+pub fn tick(mine: bool) -> Plan
+    ensures { λ r. ⌜ r ≡ tick mine ⌝ }
+{
+    if !mine {
+        return refused(Code::WContext);
+    }
+    does(Effect::Ticks)
+}

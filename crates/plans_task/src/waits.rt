@@ -1,0 +1,134 @@
+// The plans of the services that suspend and resume a task, and begin and end its sleep.
+// Each function is a definition of model/specs/Service, for every value; it rests on checks and records.
+ghost use mathlib.Core.Path.{_≡_};
+ghost use Rattle.model.specs.Service.{suspend, resume, sleep, wakeup, releaseWait};
+use checks::{answers, does, is_task, is_timeout, refused};
+use model::{Code, Effect, Plan, Task};
+use records::{ended, waiting, with_suspended, with_wakeups};
+
+pub fn suspend(mine: bool, task: u32, k: Task) -> Plan
+    ensures { λ r. ⌜ r ≡ suspend mine task k ⌝ }
+{
+    let base = k.base;
+    let active = k.active;
+    let suspended = k.suspended;
+    let numbered = is_task(task);
+    if !numbered {
+        return refused(Code::WrongParam);
+    }
+    if base == 0 {
+        return refused(Code::NoExs);
+    }
+    if !mine {
+        return refused(Code::WContext);
+    }
+    if active == 0 {
+        return refused(Code::WState);
+    }
+    if suspended != 0 {
+        return refused(Code::Overflow);
+    }
+    let t = task as u8;
+    let record = with_suspended(k, 1);
+    does(Effect::Moves { task: t, record: record })
+}
+
+pub fn resume(mine: bool, task: u32, k: Task) -> Plan
+    ensures { λ r. ⌜ r ≡ resume mine task k ⌝ }
+{
+    let base = k.base;
+    let suspended = k.suspended;
+    let numbered = is_task(task);
+    if !numbered {
+        return refused(Code::WrongParam);
+    }
+    if base == 0 {
+        return refused(Code::NoExs);
+    }
+    if !mine {
+        return refused(Code::WContext);
+    }
+    if suspended == 0 {
+        return refused(Code::WState);
+    }
+    let t = task as u8;
+    let record = with_suspended(k, 0);
+    does(Effect::Moves { task: t, record: record })
+}
+
+pub fn sleep(mine: bool, timeout: u32, run: u8, k: Task) -> Plan
+    ensures { λ r. ⌜ r ≡ sleep mine timeout run k ⌝ }
+{
+    let wakeups = k.wakeups;
+    let timed = is_timeout(timeout);
+    if !timed {
+        return refused(Code::WrongParam);
+    }
+    if !mine {
+        return refused(Code::WContext);
+    }
+    if run == 0 {
+        return refused(Code::WContext);
+    }
+    if wakeups == 0 {
+        let record = waiting(k, 1, 0, timeout);
+        return answers(Code::Pending, Effect::Moves { task: run, record: record });
+    }
+    let record = with_wakeups(k, 0);
+    does(Effect::Moves { task: run, record: record })
+}
+
+pub fn wakeup(mine: bool, task: u32, k: Task) -> Plan
+    ensures { λ r. ⌜ r ≡ wakeup mine task k ⌝ }
+{
+    let base = k.base;
+    let active = k.active;
+    let wait = k.wait;
+    let wakeups = k.wakeups;
+    let numbered = is_task(task);
+    if !numbered {
+        return refused(Code::WrongParam);
+    }
+    if base == 0 {
+        return refused(Code::NoExs);
+    }
+    if !mine {
+        return refused(Code::WContext);
+    }
+    if active == 0 {
+        return refused(Code::WContext);
+    }
+    let t = task as u8;
+    if wait == 1 {
+        let record = ended(k, 0);
+        return does(Effect::Moves { task: t, record: record });
+    }
+    if wakeups != 0 {
+        return refused(Code::Overflow);
+    }
+    let record = with_wakeups(k, 1);
+    does(Effect::Moves { task: t, record: record })
+}
+
+pub fn release_wait(mine: bool, task: u32, k: Task) -> Plan
+    ensures { λ r. ⌜ r ≡ releaseWait mine task k ⌝ }
+{
+    let base = k.base;
+    let wait = k.wait;
+    let numbered = is_task(task);
+    if !numbered {
+        return refused(Code::WrongParam);
+    }
+    if base == 0 {
+        return refused(Code::NoExs);
+    }
+    if !mine {
+        return refused(Code::WContext);
+    }
+    if wait == 0 {
+        return refused(Code::WContext);
+    }
+    let t = task as u8;
+    let record = ended(k, 11);
+    does(Effect::Moves { task: t, record: record })
+}
