@@ -1,90 +1,76 @@
+-- `plans_semaphore::acquire` meets its contract: test by test; a count of 0 begins a wait.
+-- It rests on the contracts of what it calls, and on the laws of tests.
+use native.Mathlib.Omega.{arith}
 use borrow.Author.Needs.{needs}
+use borrow.Author.Tests.{eq-eqb, ne-eqb, not-true, not-false}
+use Rattle.model.specs.Service.{acquire}
+use Rattle.checks.proofs.Laws.{fails, holds, within-top}
 use Rattle.plans_semaphore.proofs.acquire.Statement.{statement}
 use Rattle.plans_semaphore.proofs.acquire.Tie as tie
-use Rattle.plans_semaphore.proofs.acquire.Reads as reads
-use Rattle.plans_semaphore.proofs.acquire.Lts as lts
-use Rattle.checks.proofs.answers.Reads as answers-reads
-use Rattle.checks.proofs.does.Reads as does-reads
-use Rattle.checks.proofs.is_semaphore.Reads as is-semaphore-reads
-use Rattle.checks.proofs.is_timeout.Reads as is-timeout-reads
-use Rattle.checks.proofs.refused.Reads as refused-reads
-use Rattle.records.proofs.waiting.Reads as waiting-reads
 
--- src/lib.rt:88:9
 is-semaphore-requires : tie.Need-is-semaphore-requires
 is-semaphore-requires c κs = search needs
 
--- src/lib.rt:90:9
 refused-requires : tie.Need-refused-requires
 refused-requires c κs = search needs
 
--- src/lib.rt:90:9
 returns : tie.Need-returns
-returns c = ?
+unfolding acquire
+returns c = rw (c .refused .ensures, fails (c .before .before .is-semaphore .ensures) (c .before .if1 .taken))
 
--- src/lib.rt:92:9
 is-timeout-requires : tie.Need-is-timeout-requires
 is-timeout-requires c κs = search needs
 
--- src/lib.rt:94:9
 refused-requires-2 : tie.Need-refused-requires-2
 refused-requires-2 c κs = search needs
 
--- src/lib.rt:94:9
 returns-2 : tie.Need-returns-2
-returns-2 c = ?
+unfolding acquire
+returns-2 c = rw (c .refused2 .ensures, holds (c .before .before .before .before .is-semaphore .ensures) (c .before .before .before .if1 .left), fails (c .before .before .is-timeout .ensures) (c .before .if2 .taken))
 
--- src/lib.rt:97:9
 refused-requires-3 : tie.Need-refused-requires-3
 refused-requires-3 c κs = search needs
 
--- src/lib.rt:97:9
 returns-3 : tie.Need-returns-3
-returns-3 c = ?
+unfolding acquire
+returns-3 c = rw (c .refused3 .ensures, holds (c .before .before .before .before .before .is-semaphore .ensures) (c .before .before .before .before .if1 .left), holds (c .before .before .before .is-timeout .ensures) (c .before .before .if2 .left), eq-eqb _ _ (c .before .if3 .taken))
 
--- src/lib.rt:100:9
 refused-requires-4 : tie.Need-refused-requires-4
 refused-requires-4 c κs = search needs
 
--- src/lib.rt:100:9
 returns-4 : tie.Need-returns-4
-returns-4 c = ?
+unfolding acquire
+returns-4 c = rw (c .refused4 .ensures, holds (c .before .before .before .before .before .before .is-semaphore .ensures) (c .before .before .before .before .before .if1 .left), holds (c .before .before .before .before .is-timeout .ensures) (c .before .before .before .if2 .left), ne-eqb _ _ (c .before .before .if3 .left), not-true (c .before .before .before .before .before .before .before .args .mine) (c .before .if4 .taken))
 
--- src/lib.rt:103:9
 refused-requires-5 : tie.Need-refused-requires-5
 refused-requires-5 c κs = search needs
 
--- src/lib.rt:103:9
 returns-5 : tie.Need-returns-5
-returns-5 c = ?
+unfolding acquire
+returns-5 c = rw (c .refused5 .ensures, holds (c .before .before .before .before .before .before .before .is-semaphore .ensures) (c .before .before .before .before .before .before .if1 .left), holds (c .before .before .before .before .before .is-timeout .ensures) (c .before .before .before .before .if2 .left), ne-eqb _ _ (c .before .before .before .if3 .left), not-false (c .before .before .before .before .before .before .before .before .args .mine) (c .before .before .if4 .left), eq-eqb _ _ (c .before .if5 .taken))
 
--- src/lib.rt:105:13
 cast-m : tie.Need-cast-m
-cast-m c = ?
+cast-m c = omega (arith, within-top _ _ _ (holds (c .before .before .before .before .before .before .is-semaphore .ensures) (c .before .before .before .before .before .if1 .left)))
 
--- src/lib.rt:107:13
 waiting-requires : tie.Need-waiting-requires
 waiting-requires c κs = search needs
 
--- src/lib.rt:108:9
 answers-requires : tie.Need-answers-requires
 answers-requires c κs = search needs
 
--- src/lib.rt:108:9
 returns-6 : tie.Need-returns-6
-returns-6 c = ?
+unfolding acquire
+returns-6 c = rw (c .answers .ensures, c .before .waiting .ensures, holds (c .before .before .before .before .before .before .before .before .before .is-semaphore .ensures) (c .before .before .before .before .before .before .before .before .if1 .left), holds (c .before .before .before .before .before .before .before .is-timeout .ensures) (c .before .before .before .before .before .before .if2 .left), ne-eqb _ _ (c .before .before .before .before .before .if3 .left), not-false (c .before .before .before .before .before .before .before .before .before .before .args .mine) (c .before .before .before .before .if4 .left), ne-eqb _ _ (c .before .before .before .if5 .left), eq-eqb _ _ (c .before .before .if6 .taken))
 
--- src/lib.rt:110:13
 sub-n : tie.Need-sub-n
 sub-n c = search needs
 
--- src/lib.rt:111:5
 does-requires : tie.Need-does-requires
 does-requires c κs = search needs
 
--- src/lib.rt:83:1
 returns-7 : tie.Need-returns-7
-returns-7 c = ?
+unfolding acquire
+returns-7 c = rw (c .does .ensures, holds (c .before .before .before .before .before .before .before .before .is-semaphore .ensures) (c .before .before .before .before .before .before .before .if1 .left), holds (c .before .before .before .before .before .before .is-timeout .ensures) (c .before .before .before .before .before .if2 .left), ne-eqb _ _ (c .before .before .before .before .if3 .left), not-false (c .before .before .before .before .before .before .before .before .before .args .mine) (c .before .before .before .if4 .left), ne-eqb _ _ (c .before .before .if5 .left), ne-eqb _ _ (c .before .if6 .left))
 
 pub acquire-spec : {M : Type 1} → statement M
 acquire-spec =

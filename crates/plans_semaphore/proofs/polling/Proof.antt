@@ -1,63 +1,56 @@
+-- `plans_semaphore::polling` meets its contract: test by test; a count of 0 is refused.
+-- It rests on the contracts of what it calls, and on the laws of tests.
+use native.Mathlib.Omega.{arith}
 use borrow.Author.Needs.{needs}
+use borrow.Author.Tests.{eq-eqb, ne-eqb, not-true, not-false}
+use Rattle.model.specs.Service.{polling}
+use Rattle.checks.proofs.Laws.{fails, holds, within-top}
 use Rattle.plans_semaphore.proofs.polling.Statement.{statement}
 use Rattle.plans_semaphore.proofs.polling.Tie as tie
-use Rattle.plans_semaphore.proofs.polling.Reads as reads
-use Rattle.plans_semaphore.proofs.polling.Lts as lts
-use Rattle.checks.proofs.does.Reads as does-reads
-use Rattle.checks.proofs.is_semaphore.Reads as is-semaphore-reads
-use Rattle.checks.proofs.refused.Reads as refused-reads
 
--- src/lib.rt:119:9
 is-semaphore-requires : tie.Need-is-semaphore-requires
 is-semaphore-requires c κs = search needs
 
--- src/lib.rt:121:9
 refused-requires : tie.Need-refused-requires
 refused-requires c κs = search needs
 
--- src/lib.rt:121:9
 returns : tie.Need-returns
-returns c = ?
+unfolding polling
+returns c = rw (c .refused .ensures, fails (c .before .before .is-semaphore .ensures) (c .before .if1 .taken))
 
--- src/lib.rt:124:9
 refused-requires-2 : tie.Need-refused-requires-2
 refused-requires-2 c κs = search needs
 
--- src/lib.rt:124:9
 returns-2 : tie.Need-returns-2
-returns-2 c = ?
+unfolding polling
+returns-2 c = rw (c .refused2 .ensures, holds (c .before .before .before .is-semaphore .ensures) (c .before .before .if1 .left), eq-eqb _ _ (c .before .if2 .taken))
 
--- src/lib.rt:127:9
 refused-requires-3 : tie.Need-refused-requires-3
 refused-requires-3 c κs = search needs
 
--- src/lib.rt:127:9
 returns-3 : tie.Need-returns-3
-returns-3 c = ?
+unfolding polling
+returns-3 c = rw (c .refused3 .ensures, holds (c .before .before .before .before .is-semaphore .ensures) (c .before .before .before .if1 .left), ne-eqb _ _ (c .before .before .if2 .left), not-true (c .before .before .before .before .before .args .mine) (c .before .if3 .taken))
 
--- src/lib.rt:130:9
 refused-requires-4 : tie.Need-refused-requires-4
 refused-requires-4 c κs = search needs
 
--- src/lib.rt:130:9
 returns-4 : tie.Need-returns-4
-returns-4 c = ?
+unfolding polling
+returns-4 c = rw (c .refused4 .ensures, holds (c .before .before .before .before .before .is-semaphore .ensures) (c .before .before .before .before .if1 .left), ne-eqb _ _ (c .before .before .before .if2 .left), not-false (c .before .before .before .before .before .before .args .mine) (c .before .before .if3 .left), eq-eqb _ _ (c .before .if4 .taken))
 
--- src/lib.rt:132:13
 cast-m : tie.Need-cast-m
-cast-m c = ?
+cast-m c = omega (arith, within-top _ _ _ (holds (c .before .before .before .before .is-semaphore .ensures) (c .before .before .before .if1 .left)))
 
--- src/lib.rt:133:13
 sub-n : tie.Need-sub-n
 sub-n c = search needs
 
--- src/lib.rt:134:5
 does-requires : tie.Need-does-requires
 does-requires c κs = search needs
 
--- src/lib.rt:114:1
 returns-5 : tie.Need-returns-5
-returns-5 c = ?
+unfolding polling
+returns-5 c = rw (c .does .ensures, holds (c .before .before .before .before .before .is-semaphore .ensures) (c .before .before .before .before .if1 .left), ne-eqb _ _ (c .before .before .before .if2 .left), not-false (c .before .before .before .before .before .before .args .mine) (c .before .before .if3 .left), ne-eqb _ _ (c .before .if4 .left))
 
 pub polling-spec : {M : Type 1} → statement M
 polling-spec =

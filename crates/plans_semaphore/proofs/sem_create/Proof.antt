@@ -1,80 +1,69 @@
+-- `plans_semaphore::sem_create` meets its contract: test by test, and its numbers fit once they are in range.
+-- It rests on the contracts of what it calls, and on the laws of tests.
+use native.Mathlib.Omega.{arith}
 use borrow.Author.Needs.{needs}
+use borrow.Author.Tests.{eq-eqb, ne-eqb, le-leb, lt-leb, not-true, not-false}
+use Rattle.model.specs.Service.{semCreate}
+use Rattle.checks.proofs.Laws.{fails, holds, within-top}
 use Rattle.plans_semaphore.proofs.sem_create.Statement.{statement}
 use Rattle.plans_semaphore.proofs.sem_create.Tie as tie
-use Rattle.plans_semaphore.proofs.sem_create.Reads as reads
-use Rattle.plans_semaphore.proofs.sem_create.Lts as lts
-use Rattle.checks.proofs.does.Reads as does-reads
-use Rattle.checks.proofs.is_maximum.Reads as is-maximum-reads
-use Rattle.checks.proofs.is_semaphore.Reads as is-semaphore-reads
-use Rattle.checks.proofs.refused.Reads as refused-reads
 
--- src/lib.rt:13:9
 is-semaphore-requires : tie.Need-is-semaphore-requires
 is-semaphore-requires c κs = search needs
 
--- src/lib.rt:15:9
 refused-requires : tie.Need-refused-requires
 refused-requires c κs = search needs
 
--- src/lib.rt:15:9
 returns : tie.Need-returns
-returns c = ?
+unfolding semCreate
+returns c = rw (c .refused .ensures, fails (c .before .before .is-semaphore .ensures) (c .before .if1 .taken))
 
--- src/lib.rt:17:9
 is-maximum-requires : tie.Need-is-maximum-requires
 is-maximum-requires c κs = search needs
 
--- src/lib.rt:19:9
 refused-requires-2 : tie.Need-refused-requires-2
 refused-requires-2 c κs = search needs
 
--- src/lib.rt:19:9
 returns-2 : tie.Need-returns-2
-returns-2 c = ?
+unfolding semCreate
+returns-2 c = rw (c .refused2 .ensures, holds (c .before .before .before .before .is-semaphore .ensures) (c .before .before .before .if1 .left), fails (c .before .before .is-maximum .ensures) (c .before .if2 .taken))
 
--- src/lib.rt:22:9
 refused-requires-3 : tie.Need-refused-requires-3
 refused-requires-3 c κs = search needs
 
--- src/lib.rt:22:9
 returns-3 : tie.Need-returns-3
-returns-3 c = ?
+unfolding semCreate
+returns-3 c = rw (c .refused3 .ensures, holds (c .before .before .before .before .before .is-semaphore .ensures) (c .before .before .before .before .if1 .left), holds (c .before .before .before .is-maximum .ensures) (c .before .before .if2 .left), lt-leb _ _ (c .before .if3 .taken))
 
--- src/lib.rt:25:9
 refused-requires-4 : tie.Need-refused-requires-4
 refused-requires-4 c κs = search needs
 
--- src/lib.rt:25:9
 returns-4 : tie.Need-returns-4
-returns-4 c = ?
+unfolding semCreate
+returns-4 c = rw (c .refused4 .ensures, holds (c .before .before .before .before .before .before .is-semaphore .ensures) (c .before .before .before .before .before .if1 .left), holds (c .before .before .before .before .is-maximum .ensures) (c .before .before .before .if2 .left), le-leb _ _ (c .before .before .if3 .left), ne-eqb _ _ (c .before .if4 .taken))
 
--- src/lib.rt:28:9
 refused-requires-5 : tie.Need-refused-requires-5
 refused-requires-5 c κs = search needs
 
--- src/lib.rt:28:9
 returns-5 : tie.Need-returns-5
-returns-5 c = ?
+unfolding semCreate
+returns-5 c = rw (c .refused5 .ensures, holds (c .before .before .before .before .before .before .before .is-semaphore .ensures) (c .before .before .before .before .before .before .if1 .left), holds (c .before .before .before .before .before .is-maximum .ensures) (c .before .before .before .before .if2 .left), le-leb _ _ (c .before .before .before .if3 .left), eq-eqb _ _ (c .before .before .if4 .left), not-true (c .before .before .before .before .before .before .before .before .args .mine) (c .before .if5 .taken))
 
--- src/lib.rt:30:13
 cast-m : tie.Need-cast-m
-cast-m c = ?
+cast-m c = omega (arith, within-top _ _ _ (holds (c .before .before .before .before .before .before .is-semaphore .ensures) (c .before .before .before .before .before .if1 .left)))
 
--- src/lib.rt:31:13
 cast-n : tie.Need-cast-n
-cast-n c = ?
+cast-n c = omega (arith, within-top _ _ _ (holds (c .before .before .before .before .is-maximum .ensures) (c .before .before .before .if2 .left)))
 
--- src/lib.rt:32:13
 cast-v : tie.Need-cast-v
-cast-v c = ?
+cast-v c = omega (arith, within-top _ _ _ (holds (c .before .before .before .before .is-maximum .ensures) (c .before .before .before .if2 .left)))
 
--- src/lib.rt:33:5
 does-requires : tie.Need-does-requires
 does-requires c κs = search needs
 
--- src/lib.rt:9:1
 returns-6 : tie.Need-returns-6
-returns-6 c = ?
+unfolding semCreate
+returns-6 c = rw (c .does .ensures, holds (c .before .before .before .before .before .before .before .is-semaphore .ensures) (c .before .before .before .before .before .before .if1 .left), holds (c .before .before .before .before .before .is-maximum .ensures) (c .before .before .before .before .if2 .left), le-leb _ _ (c .before .before .before .if3 .left), eq-eqb _ _ (c .before .before .if4 .left), not-false (c .before .before .before .before .before .before .before .before .args .mine) (c .before .if5 .left))
 
 pub sem-create-spec : {M : Type 1} → statement M
 sem-create-spec =

@@ -1,76 +1,66 @@
+-- `plans_semaphore::signal` meets its contract: test by test; who waits first goes before the count.
+-- It rests on the contracts of what it calls, and on the laws of tests.
+use native.Mathlib.Omega.{arith}
 use borrow.Author.Needs.{needs}
+use borrow.Author.Tests.{eq-eqb, ne-eqb, lt-ltb, le-ltb, not-true, not-false}
+use Rattle.model.specs.Service.{signal}
+use Rattle.checks.proofs.Laws.{fails, holds, within-top}
 use Rattle.plans_semaphore.proofs.signal.Statement.{statement}
 use Rattle.plans_semaphore.proofs.signal.Tie as tie
-use Rattle.plans_semaphore.proofs.signal.Reads as reads
-use Rattle.plans_semaphore.proofs.signal.Lts as lts
-use Rattle.checks.proofs.does.Reads as does-reads
-use Rattle.checks.proofs.is_semaphore.Reads as is-semaphore-reads
-use Rattle.checks.proofs.refused.Reads as refused-reads
-use Rattle.records.proofs.ended.Reads as ended-reads
 
--- src/lib.rt:61:9
 is-semaphore-requires : tie.Need-is-semaphore-requires
 is-semaphore-requires c κs = search needs
 
--- src/lib.rt:63:9
 refused-requires : tie.Need-refused-requires
 refused-requires c κs = search needs
 
--- src/lib.rt:63:9
 returns : tie.Need-returns
-returns c = ?
+unfolding signal
+returns c = rw (c .refused .ensures, fails (c .before .before .is-semaphore .ensures) (c .before .if1 .taken))
 
--- src/lib.rt:66:9
 refused-requires-2 : tie.Need-refused-requires-2
 refused-requires-2 c κs = search needs
 
--- src/lib.rt:66:9
 returns-2 : tie.Need-returns-2
-returns-2 c = ?
+unfolding signal
+returns-2 c = rw (c .refused2 .ensures, holds (c .before .before .before .is-semaphore .ensures) (c .before .before .if1 .left), eq-eqb _ _ (c .before .if2 .taken))
 
--- src/lib.rt:69:9
 refused-requires-3 : tie.Need-refused-requires-3
 refused-requires-3 c κs = search needs
 
--- src/lib.rt:69:9
 returns-3 : tie.Need-returns-3
-returns-3 c = ?
+unfolding signal
+returns-3 c = rw (c .refused3 .ensures, holds (c .before .before .before .before .is-semaphore .ensures) (c .before .before .before .if1 .left), ne-eqb _ _ (c .before .before .if2 .left), not-true (c .before .before .before .before .before .args .mine) (c .before .if3 .taken))
 
--- src/lib.rt:72:13
 ended-requires : tie.Need-ended-requires
 ended-requires c κs = search needs
 
--- src/lib.rt:73:9
 does-requires : tie.Need-does-requires
 does-requires c κs = search needs
 
--- src/lib.rt:73:9
 returns-4 : tie.Need-returns-4
-returns-4 c = ?
+unfolding signal
+returns-4 c = rw (c .does .ensures, c .before .ended .ensures, holds (c .before .before .before .before .before .before .is-semaphore .ensures) (c .before .before .before .before .before .if1 .left), ne-eqb _ _ (c .before .before .before .before .if2 .left), not-false (c .before .before .before .before .before .before .before .args .mine) (c .before .before .before .if3 .left), ne-eqb _ _ (c .before .before .if4 .taken))
 
--- src/lib.rt:76:17
 cast-m : tie.Need-cast-m
-cast-m c = ?
+cast-m c = omega (arith, within-top _ _ _ (holds (c .before .before .before .before .before .is-semaphore .ensures) (c .before .before .before .before .if1 .left)))
 
--- src/lib.rt:77:17
 add-n : tie.Need-add-n
 add-n c = search needs
 
--- src/lib.rt:78:9
 does-requires-2 : tie.Need-does-requires-2
 does-requires-2 c κs = search needs
 
--- src/lib.rt:78:9
 returns-5 : tie.Need-returns-5
-returns-5 c = ?
+unfolding signal
+returns-5 c = rw (c .does2 .ensures, holds (c .before .before .before .before .before .before .is-semaphore .ensures) (c .before .before .before .before .before .if1 .left), ne-eqb _ _ (c .before .before .before .before .if2 .left), not-false (c .before .before .before .before .before .before .before .args .mine) (c .before .before .before .if3 .left), eq-eqb _ _ (c .before .before .if4 .left), lt-ltb _ _ (c .before .if5 .taken))
 
--- src/lib.rt:80:5
 refused-requires-4 : tie.Need-refused-requires-4
 refused-requires-4 c κs = search needs
 
--- src/lib.rt:55:1
 returns-6 : tie.Need-returns-6
-returns-6 c = ?
+unfolding signal
+returns-6 c = rw (c .refused4 .ensures, holds (c .before .before .before .before .before .before .is-semaphore .ensures) (c .before .before .before .before .before .if1 .left), ne-eqb _ _ (c .before .before .before .before .if2 .left), not-false (c .before .before .before .before .before .before .before .args .mine) (c .before .before .before .if3 .left), eq-eqb _ _ (c .before .before .if4 .left), le-ltb _ _ (c .before .if5 .left))
 
 pub signal-spec : {M : Type 1} → statement M
 signal-spec =
