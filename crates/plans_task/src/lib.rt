@@ -1,5 +1,5 @@
 // The plans of the services on tasks, and of slices and the tick, in the order of document 01.
 // Each function is a definition of model/specs/Service, for every value; it rests on checks and records.
-mod life;
-mod turns;
-mod waits;
+pub mod life;
+pub mod turns;
+pub mod waits;

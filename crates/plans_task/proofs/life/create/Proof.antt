@@ -1,0 +1,92 @@
+-- `plans_task::create` meets its contract: test by test, and its numbers fit once they are in range.
+-- It rests on the contracts of what it calls, and on the laws of tests.
+use native.Mathlib.Omega.{arith}
+use borrow.Author.Needs.{needs}
+use borrow.Author.Tests.{eq-eqb, ne-eqb, le-leb, lt-leb, not-true, not-false}
+use Rattle.model.specs.Service.{create}
+use Rattle.checks.proofs.Laws.{fails, holds, within-top}
+use Rattle.plans_task.proofs.life.create.Statement.{statement}
+use Rattle.plans_task.proofs.life.create.Tie as tie
+
+is-task-requires : tie.Need-is-task-requires
+is-task-requires c κs = search needs
+
+refused-requires : tie.Need-refused-requires
+refused-requires c κs = search needs
+
+returns : tie.Need-returns
+unfolding create
+returns c = rw (c .refused .ensures, fails (c .before .before .is-task .ensures) (c .before .if1 .taken))
+
+is-priority-requires : tie.Need-is-priority-requires
+is-priority-requires c κs = search needs
+
+refused-requires-2 : tie.Need-refused-requires-2
+refused-requires-2 c κs = search needs
+
+returns-2 : tie.Need-returns-2
+unfolding create
+returns-2 c = rw (c .refused2 .ensures, holds (c .before .before .before .before .is-task .ensures) (c .before .before .before .if1 .left), fails (c .before .before .is-priority .ensures) (c .before .if2 .taken))
+
+refused-requires-3 : tie.Need-refused-requires-3
+refused-requires-3 c κs = search needs
+
+returns-3 : tie.Need-returns-3
+unfolding create
+returns-3 c = rw (c .refused3 .ensures, holds (c .before .before .before .before .before .is-task .ensures) (c .before .before .before .before .if1 .left), holds (c .before .before .before .is-priority .ensures) (c .before .before .if2 .left), lt-leb _ _ (c .before .if3 .taken))
+
+refused-requires-4 : tie.Need-refused-requires-4
+refused-requires-4 c κs = search needs
+
+returns-4 : tie.Need-returns-4
+unfolding create
+returns-4 c = rw (c .refused4 .ensures, holds (c .before .before .before .before .before .before .is-task .ensures) (c .before .before .before .before .before .if1 .left), holds (c .before .before .before .before .is-priority .ensures) (c .before .before .before .if2 .left), le-leb _ _ (c .before .before .if3 .left), ne-eqb _ _ (c .before .if4 .taken))
+
+refused-requires-5 : tie.Need-refused-requires-5
+refused-requires-5 c κs = search needs
+
+returns-5 : tie.Need-returns-5
+unfolding create
+returns-5 c = rw (c .refused5 .ensures, holds (c .before .before .before .before .before .before .before .is-task .ensures) (c .before .before .before .before .before .before .if1 .left), holds (c .before .before .before .before .before .is-priority .ensures) (c .before .before .before .before .if2 .left), le-leb _ _ (c .before .before .before .if3 .left), eq-eqb _ _ (c .before .before .if4 .left), not-true (c .before .before .before .before .before .before .before .before .args .mine) (c .before .if5 .taken))
+
+cast-t : tie.Need-cast-t
+cast-t c = omega (arith, within-top _ _ _ (holds (c .before .before .before .before .before .before .is-task .ensures) (c .before .before .before .before .before .if1 .left)))
+
+cast-p : tie.Need-cast-p
+cast-p c = omega (arith, within-top _ _ _ (holds (c .before .before .before .before .is-priority .ensures) (c .before .before .before .if2 .left)))
+
+cast-o : tie.Need-cast-o
+cast-o c = search needs
+
+created-requires : tie.Need-created-requires
+created-requires c κs = search needs
+
+does-requires : tie.Need-does-requires
+does-requires c κs = search needs
+
+returns-6 : tie.Need-returns-6
+unfolding create
+returns-6 c = rw (c .does .ensures, c .before .created .ensures, holds (c .before .before .before .before .before .before .before .before .is-task .ensures) (c .before .before .before .before .before .before .before .if1 .left), holds (c .before .before .before .before .before .before .is-priority .ensures) (c .before .before .before .before .before .if2 .left), le-leb _ _ (c .before .before .before .before .if3 .left), eq-eqb _ _ (c .before .before .before .if4 .left), not-false (c .before .before .before .before .before .before .before .before .before .args .mine) (c .before .before .if5 .left))
+
+pub create-spec : {M : Type 1} → statement M
+create-spec =
+    tie.close
+    (tie.spec
+    is-task-requires
+    refused-requires
+    returns
+    is-priority-requires
+    refused-requires-2
+    returns-2
+    refused-requires-3
+    returns-3
+    refused-requires-4
+    returns-4
+    refused-requires-5
+    returns-5
+    cast-t
+    cast-p
+    cast-o
+    created-requires
+    does-requires
+    returns-6)
