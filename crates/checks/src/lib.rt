@@ -2,7 +2,9 @@
 // Each function is a definition of model/specs/Plan, for every value; it rests on model alone.
 ghost use mathlib.Core.Path.{_≡_};
 ghost use Rattle.model.specs.Plan.{within, isTask, isPriority, isSemaphore, isMaximum, isTimeout, isSlice, does, answers, refused};
-use model::{Code, Effect, Plan};
+use model::Code;
+use model::Effect;
+use model::Plan;
 
 pub const ENDLESS: u32 = 4294967295;
 

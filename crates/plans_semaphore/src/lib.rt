@@ -2,9 +2,19 @@
 // Each function is a definition of model/specs/Service, for every value; it rests on checks and records.
 ghost use mathlib.Core.Path.{_≡_};
 ghost use Rattle.model.specs.Service.{semCreate, semDelete, signal, acquire, polling};
-use checks::{answers, does, is_maximum, is_semaphore, is_timeout, refused};
-use model::{Code, Effect, Plan, Semaphore, Task};
-use records::{ended, waiting};
+use checks::answers;
+use checks::does;
+use checks::is_maximum;
+use checks::is_semaphore;
+use checks::is_timeout;
+use checks::refused;
+use model::Code;
+use model::Effect;
+use model::Plan;
+use model::Semaphore;
+use model::Task;
+use records::ended;
+use records::waiting;
 
 pub fn sem_create(mine: bool, semaphore: u32, start: u32, maximum: u32, x: Semaphore) -> Plan
     ensures { λ r. ⌜ r ≡ semCreate mine semaphore start maximum x ⌝ }
@@ -30,7 +40,11 @@ pub fn sem_create(mine: bool, semaphore: u32, start: u32, maximum: u32, x: Semap
     let m = semaphore as u8;
     let n = start as u16;
     let v = maximum as u16;
-    does(Effect::Counts { semaphore: m, count: n, maximum: v })
+    does(Effect::Counts {
+        semaphore: m,
+        count: n,
+        maximum: v,
+    })
 }
 
 pub fn sem_delete(mine: bool, semaphore: u32, x: Semaphore) -> Plan
@@ -70,12 +84,19 @@ pub fn signal(mine: bool, semaphore: u32, k: Task, x: Semaphore) -> Plan
     }
     if first != 0 {
         let record = ended(k, 0);
-        return does(Effect::Moves { task: first, record: record });
+        return does(Effect::Moves {
+            task: first,
+            record: record,
+        });
     }
     if count < maximum {
         let m = semaphore as u8;
         let n = count + 1;
-        return does(Effect::Counts { semaphore: m, count: n, maximum: maximum });
+        return does(Effect::Counts {
+            semaphore: m,
+            count: n,
+            maximum: maximum,
+        });
     }
     refused(Code::Overflow)
 }
@@ -105,10 +126,20 @@ pub fn acquire(mine: bool, semaphore: u32, timeout: u32, run: u8, k: Task, x: Se
     let m = semaphore as u8;
     if count == 0 {
         let record = waiting(k, 2, m, timeout);
-        return answers(Code::Pending, Effect::Moves { task: run, record: record });
+        return answers(
+            Code::Pending,
+            Effect::Moves {
+                task: run,
+                record: record,
+            },
+        );
     }
     let n = count - 1;
-    does(Effect::Counts { semaphore: m, count: n, maximum: maximum })
+    does(Effect::Counts {
+        semaphore: m,
+        count: n,
+        maximum: maximum,
+    })
 }
 
 pub fn polling(mine: bool, semaphore: u32, x: Semaphore) -> Plan
@@ -131,5 +162,9 @@ pub fn polling(mine: bool, semaphore: u32, x: Semaphore) -> Plan
     }
     let m = semaphore as u8;
     let n = count - 1;
-    does(Effect::Counts { semaphore: m, count: n, maximum: maximum })
+    does(Effect::Counts {
+        semaphore: m,
+        count: n,
+        maximum: maximum,
+    })
 }

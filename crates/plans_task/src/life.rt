@@ -2,9 +2,18 @@
 // Each function is a definition of model/specs/Service, for every value; it rests on checks and records.
 ghost use mathlib.Core.Path.{_≡_};
 ghost use Rattle.model.specs.Service.{create, delete, activate, exit, terminate};
-use checks::{does, is_priority, is_task, refused};
-use model::{Code, Effect, Plan, Task};
-use records::{activated, created, no_task, with_activations};
+use checks::does;
+use checks::is_priority;
+use checks::is_task;
+use checks::refused;
+use model::Code;
+use model::Effect;
+use model::Plan;
+use model::Task;
+use records::activated;
+use records::created;
+use records::no_task;
+use records::with_activations;
 
 pub fn create(mine: bool, task: u32, priority: u32, option: u32, k: Task) -> Plan
     ensures { λ r. ⌜ r ≡ create mine task priority option k ⌝ }
@@ -31,7 +40,10 @@ pub fn create(mine: bool, task: u32, priority: u32, option: u32, k: Task) -> Pla
     let p = priority as u8;
     let o = option as u8;
     let record = created(p, o);
-    does(Effect::Moves { task: t, record: record })
+    does(Effect::Moves {
+        task: t,
+        record: record,
+    })
 }
 
 pub fn delete(mine: bool, task: u32, k: Task) -> Plan
@@ -54,7 +66,10 @@ pub fn delete(mine: bool, task: u32, k: Task) -> Plan
     }
     let t = task as u8;
     let record = no_task();
-    does(Effect::Moves { task: t, record: record })
+    does(Effect::Moves {
+        task: t,
+        record: record,
+    })
 }
 
 pub fn activate(mine: bool, task: u32, k: Task) -> Plan
@@ -76,13 +91,19 @@ pub fn activate(mine: bool, task: u32, k: Task) -> Plan
     let t = task as u8;
     if active == 0 {
         let record = activated(k);
-        return does(Effect::Moves { task: t, record: record });
+        return does(Effect::Moves {
+            task: t,
+            record: record,
+        });
     }
     if activations != 0 {
         return refused(Code::Overflow);
     }
     let record = with_activations(k, 1);
-    does(Effect::Moves { task: t, record: record })
+    does(Effect::Moves {
+        task: t,
+        record: record,
+    })
 }
 
 pub fn exit(mine: bool, run: u8) -> Plan

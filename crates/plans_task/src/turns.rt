@@ -2,8 +2,15 @@
 // Each function is a definition of model/specs/Service, for every value; it rests on checks and records.
 ghost use mathlib.Core.Path.{_≡_};
 ghost use Rattle.model.specs.Service.{wanted, changePriority, tsliceTicks, tick};
-use checks::{does, is_priority, is_slice, is_task, refused};
-use model::{Code, Effect, Plan, Task};
+use checks::does;
+use checks::is_priority;
+use checks::is_slice;
+use checks::is_task;
+use checks::refused;
+use model::Code;
+use model::Effect;
+use model::Plan;
+use model::Task;
 use records::with_priority;
 
 pub fn wanted(priority: u8, k: Task) -> u8
@@ -44,7 +51,10 @@ pub fn change_priority(mine: bool, task: u32, priority: u32, k: Task) -> Plan
         return does(Effect::Nothing);
     }
     let record = with_priority(k, next);
-    does(Effect::Moves { task: t, record: record })
+    does(Effect::Moves {
+        task: t,
+        record: record,
+    })
 }
 
 pub fn tslice_ticks(mine: bool, level: u32, slice: u32) -> Plan

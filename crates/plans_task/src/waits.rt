@@ -2,9 +2,19 @@
 // Each function is a definition of model/specs/Service, for every value; it rests on checks and records.
 ghost use mathlib.Core.Path.{_≡_};
 ghost use Rattle.model.specs.Service.{suspend, resume, sleep, wakeup, releaseWait};
-use checks::{answers, does, is_task, is_timeout, refused};
-use model::{Code, Effect, Plan, Task};
-use records::{ended, waiting, with_suspended, with_wakeups};
+use checks::answers;
+use checks::does;
+use checks::is_task;
+use checks::is_timeout;
+use checks::refused;
+use model::Code;
+use model::Effect;
+use model::Plan;
+use model::Task;
+use records::ended;
+use records::waiting;
+use records::with_suspended;
+use records::with_wakeups;
 
 pub fn suspend(mine: bool, task: u32, k: Task) -> Plan
     ensures { λ r. ⌜ r ≡ suspend mine task k ⌝ }
@@ -30,7 +40,10 @@ pub fn suspend(mine: bool, task: u32, k: Task) -> Plan
     }
     let t = task as u8;
     let record = with_suspended(k, 1);
-    does(Effect::Moves { task: t, record: record })
+    does(Effect::Moves {
+        task: t,
+        record: record,
+    })
 }
 
 pub fn resume(mine: bool, task: u32, k: Task) -> Plan
@@ -53,7 +66,10 @@ pub fn resume(mine: bool, task: u32, k: Task) -> Plan
     }
     let t = task as u8;
     let record = with_suspended(k, 0);
-    does(Effect::Moves { task: t, record: record })
+    does(Effect::Moves {
+        task: t,
+        record: record,
+    })
 }
 
 pub fn sleep(mine: bool, timeout: u32, run: u8, k: Task) -> Plan
@@ -72,10 +88,19 @@ pub fn sleep(mine: bool, timeout: u32, run: u8, k: Task) -> Plan
     }
     if wakeups == 0 {
         let record = waiting(k, 1, 0, timeout);
-        return answers(Code::Pending, Effect::Moves { task: run, record: record });
+        return answers(
+            Code::Pending,
+            Effect::Moves {
+                task: run,
+                record: record,
+            },
+        );
     }
     let record = with_wakeups(k, 0);
-    does(Effect::Moves { task: run, record: record })
+    does(Effect::Moves {
+        task: run,
+        record: record,
+    })
 }
 
 pub fn wakeup(mine: bool, task: u32, k: Task) -> Plan
@@ -101,13 +126,19 @@ pub fn wakeup(mine: bool, task: u32, k: Task) -> Plan
     let t = task as u8;
     if wait == 1 {
         let record = ended(k, 0);
-        return does(Effect::Moves { task: t, record: record });
+        return does(Effect::Moves {
+            task: t,
+            record: record,
+        });
     }
     if wakeups != 0 {
         return refused(Code::Overflow);
     }
     let record = with_wakeups(k, 1);
-    does(Effect::Moves { task: t, record: record })
+    does(Effect::Moves {
+        task: t,
+        record: record,
+    })
 }
 
 pub fn release_wait(mine: bool, task: u32, k: Task) -> Plan
@@ -130,5 +161,8 @@ pub fn release_wait(mine: bool, task: u32, k: Task) -> Plan
     }
     let t = task as u8;
     let record = ended(k, 11);
-    does(Effect::Moves { task: t, record: record })
+    does(Effect::Moves {
+        task: t,
+        record: record,
+    })
 }

@@ -1,0 +1,318 @@
+-- `plans::plan` meets its contract: call by call.
+-- It rests on the contracts of the services.
+use borrow.Author.Needs.{needs}
+use Rattle.model.specs.Call.{plan}
+use Rattle.plans.proofs.plan.Statement.{statement}
+use Rattle.plans.proofs.plan.Tie as tie
+
+in-t-requires : tie.Need-in-t-requires
+in-t-requires c κs = search needs
+
+in-i-requires : tie.Need-in-i-requires
+in-i-requires c κs = search needs
+
+enum-known-a : tie.Need-enum-known-a
+enum-known-a c = search needs
+
+create-requires : tie.Need-create-requires
+create-requires c κs = search needs
+
+enum-known-a-2 : tie.Need-enum-known-a-2
+enum-known-a-2 c = search needs
+
+delete-requires : tie.Need-delete-requires
+delete-requires c κs = search needs
+
+enum-known-a-3 : tie.Need-enum-known-a-3
+enum-known-a-3 c = search needs
+
+activate-requires : tie.Need-activate-requires
+activate-requires c κs = search needs
+
+enum-known-a-4 : tie.Need-enum-known-a-4
+enum-known-a-4 c = search needs
+
+activate-requires-2 : tie.Need-activate-requires-2
+activate-requires-2 c κs = search needs
+
+enum-told : tie.Need-enum-told
+enum-told c = search needs
+
+exit-requires : tie.Need-exit-requires
+exit-requires c κs = search needs
+
+enum-known-a-5 : tie.Need-enum-known-a-5
+enum-known-a-5 c = search needs
+
+terminate-requires : tie.Need-terminate-requires
+terminate-requires c κs = search needs
+
+enum-known-a-6 : tie.Need-enum-known-a-6
+enum-known-a-6 c = search needs
+
+suspend-requires : tie.Need-suspend-requires
+suspend-requires c κs = search needs
+
+enum-known-a-7 : tie.Need-enum-known-a-7
+enum-known-a-7 c = search needs
+
+resume-requires : tie.Need-resume-requires
+resume-requires c κs = search needs
+
+enum-known-a-8 : tie.Need-enum-known-a-8
+enum-known-a-8 c = search needs
+
+sleep-requires : tie.Need-sleep-requires
+sleep-requires c κs = search needs
+
+enum-known-a-9 : tie.Need-enum-known-a-9
+enum-known-a-9 c = search needs
+
+wakeup-requires : tie.Need-wakeup-requires
+wakeup-requires c κs = search needs
+
+enum-known-a-10 : tie.Need-enum-known-a-10
+enum-known-a-10 c = search needs
+
+wakeup-requires-2 : tie.Need-wakeup-requires-2
+wakeup-requires-2 c κs = search needs
+
+enum-known-a-11 : tie.Need-enum-known-a-11
+enum-known-a-11 c = search needs
+
+release-wait-requires : tie.Need-release-wait-requires
+release-wait-requires c κs = search needs
+
+enum-known-a-12 : tie.Need-enum-known-a-12
+enum-known-a-12 c = search needs
+
+release-wait-requires-2 : tie.Need-release-wait-requires-2
+release-wait-requires-2 c κs = search needs
+
+enum-known-a-13 : tie.Need-enum-known-a-13
+enum-known-a-13 c = search needs
+
+change-priority-requires : tie.Need-change-priority-requires
+change-priority-requires c κs = search needs
+
+enum-known-a-14 : tie.Need-enum-known-a-14
+enum-known-a-14 c = search needs
+
+tslice-ticks-requires : tie.Need-tslice-ticks-requires
+tslice-ticks-requires c κs = search needs
+
+enum-told-2 : tie.Need-enum-told-2
+enum-told-2 c = search needs
+
+tick-requires : tie.Need-tick-requires
+tick-requires c κs = search needs
+
+enum-known-a-15 : tie.Need-enum-known-a-15
+enum-known-a-15 c = search needs
+
+sem-create-requires : tie.Need-sem-create-requires
+sem-create-requires c κs = search needs
+
+enum-known-a-16 : tie.Need-enum-known-a-16
+enum-known-a-16 c = search needs
+
+sem-delete-requires : tie.Need-sem-delete-requires
+sem-delete-requires c κs = search needs
+
+enum-known-a-17 : tie.Need-enum-known-a-17
+enum-known-a-17 c = search needs
+
+signal-requires : tie.Need-signal-requires
+signal-requires c κs = search needs
+
+enum-known-a-18 : tie.Need-enum-known-a-18
+enum-known-a-18 c = search needs
+
+signal-requires-2 : tie.Need-signal-requires-2
+signal-requires-2 c κs = search needs
+
+enum-known-a-19 : tie.Need-enum-known-a-19
+enum-known-a-19 c = search needs
+
+acquire-requires : tie.Need-acquire-requires
+acquire-requires c κs = search needs
+
+enum-known-a-20 : tie.Need-enum-known-a-20
+enum-known-a-20 c = search needs
+
+polling-requires : tie.Need-polling-requires
+polling-requires c κs = search needs
+
+enum-known-a-21 : tie.Need-enum-known-a-21
+enum-known-a-21 c = search needs
+
+polling-requires-2 : tie.Need-polling-requires-2
+polling-requires-2 c κs = search needs
+
+returns : tie.Need-returns
+unfolding plan
+returns c = rw (c .create .ensures, c .before .before .before .before .before .in-t .ensures, c .before .before .a .given .1)
+
+returns-2 : tie.Need-returns-2
+unfolding plan
+returns-2 c = rw (c .delete .ensures, c .before .before .before .before .before .in-t .ensures, c .before .before .a2 .given .1)
+
+returns-3 : tie.Need-returns-3
+unfolding plan
+returns-3 c = rw (c .activate .ensures, c .before .before .before .before .before .in-t .ensures, c .before .before .a3 .given .1)
+
+returns-4 : tie.Need-returns-4
+unfolding plan
+returns-4 c = rw (c .activate2 .ensures, c .before .before .before .before .in-i .ensures, c .before .before .a4 .given .1)
+
+returns-5 : tie.Need-returns-5
+unfolding plan
+returns-5 c = rw (c .exit .ensures, c .before .before .before .before .in-t .ensures, c .before .enum-told .given .1)
+
+returns-6 : tie.Need-returns-6
+unfolding plan
+returns-6 c = rw (c .terminate .ensures, c .before .before .before .before .before .in-t .ensures, c .before .before .a5 .given .1)
+
+returns-7 : tie.Need-returns-7
+unfolding plan
+returns-7 c = rw (c .suspend .ensures, c .before .before .before .before .before .in-t .ensures, c .before .before .a6 .given .1)
+
+returns-8 : tie.Need-returns-8
+unfolding plan
+returns-8 c = rw (c .resume .ensures, c .before .before .before .before .before .in-t .ensures, c .before .before .a7 .given .1)
+
+returns-9 : tie.Need-returns-9
+unfolding plan
+returns-9 c = rw (c .sleep .ensures, c .before .before .before .before .before .in-t .ensures, c .before .before .a8 .given .1)
+
+returns-10 : tie.Need-returns-10
+unfolding plan
+returns-10 c = rw (c .wakeup .ensures, c .before .before .before .before .before .in-t .ensures, c .before .before .a9 .given .1)
+
+returns-11 : tie.Need-returns-11
+unfolding plan
+returns-11 c = rw (c .wakeup2 .ensures, c .before .before .before .before .in-i .ensures, c .before .before .a10 .given .1)
+
+returns-12 : tie.Need-returns-12
+unfolding plan
+returns-12 c = rw (c .release-wait .ensures, c .before .before .before .before .before .in-t .ensures, c .before .before .a11 .given .1)
+
+returns-13 : tie.Need-returns-13
+unfolding plan
+returns-13 c = rw (c .release-wait2 .ensures, c .before .before .before .before .in-i .ensures, c .before .before .a12 .given .1)
+
+returns-14 : tie.Need-returns-14
+unfolding plan
+returns-14 c = rw (c .change-priority .ensures, c .before .before .before .before .before .in-t .ensures, c .before .before .a13 .given .1)
+
+returns-15 : tie.Need-returns-15
+unfolding plan
+returns-15 c = rw (c .tslice-ticks .ensures, c .before .before .before .before .before .in-t .ensures, c .before .before .a14 .given .1)
+
+returns-16 : tie.Need-returns-16
+unfolding plan
+returns-16 c = rw (c .tick .ensures, c .before .before .before .in-i .ensures, c .before .enum-told2 .given .1)
+
+returns-17 : tie.Need-returns-17
+unfolding plan
+returns-17 c = rw (c .sem-create .ensures, c .before .before .before .before .before .in-t .ensures, c .before .before .a15 .given .1)
+
+returns-18 : tie.Need-returns-18
+unfolding plan
+returns-18 c = rw (c .sem-delete .ensures, c .before .before .before .before .before .in-t .ensures, c .before .before .a16 .given .1)
+
+returns-19 : tie.Need-returns-19
+unfolding plan
+returns-19 c = rw (c .signal .ensures, c .before .before .before .before .before .in-t .ensures, c .before .before .a17 .given .1)
+
+returns-20 : tie.Need-returns-20
+unfolding plan
+returns-20 c = rw (c .signal2 .ensures, c .before .before .before .before .in-i .ensures, c .before .before .a18 .given .1)
+
+returns-21 : tie.Need-returns-21
+unfolding plan
+returns-21 c = rw (c .acquire .ensures, c .before .before .before .before .before .in-t .ensures, c .before .before .a19 .given .1)
+
+returns-22 : tie.Need-returns-22
+unfolding plan
+returns-22 c = rw (c .polling .ensures, c .before .before .before .before .before .in-t .ensures, c .before .before .a20 .given .1)
+
+returns-23 : tie.Need-returns-23
+unfolding plan
+returns-23 c = rw (c .polling2 .ensures, c .before .before .before .before .in-i .ensures, c .before .before .a21 .given .1)
+
+pub plan-spec : {M : Type 1} → statement M
+plan-spec =
+    tie.close
+    (tie.spec
+    in-t-requires
+    in-i-requires
+    enum-known-a
+    create-requires
+    enum-known-a-2
+    delete-requires
+    enum-known-a-3
+    activate-requires
+    enum-known-a-4
+    activate-requires-2
+    enum-told
+    exit-requires
+    enum-known-a-5
+    terminate-requires
+    enum-known-a-6
+    suspend-requires
+    enum-known-a-7
+    resume-requires
+    enum-known-a-8
+    sleep-requires
+    enum-known-a-9
+    wakeup-requires
+    enum-known-a-10
+    wakeup-requires-2
+    enum-known-a-11
+    release-wait-requires
+    enum-known-a-12
+    release-wait-requires-2
+    enum-known-a-13
+    change-priority-requires
+    enum-known-a-14
+    tslice-ticks-requires
+    enum-told-2
+    tick-requires
+    enum-known-a-15
+    sem-create-requires
+    enum-known-a-16
+    sem-delete-requires
+    enum-known-a-17
+    signal-requires
+    enum-known-a-18
+    signal-requires-2
+    enum-known-a-19
+    acquire-requires
+    enum-known-a-20
+    polling-requires
+    enum-known-a-21
+    polling-requires-2
+    returns
+    returns-2
+    returns-3
+    returns-4
+    returns-5
+    returns-6
+    returns-7
+    returns-8
+    returns-9
+    returns-10
+    returns-11
+    returns-12
+    returns-13
+    returns-14
+    returns-15
+    returns-16
+    returns-17
+    returns-18
+    returns-19
+    returns-20
+    returns-21
+    returns-22
+    returns-23)

@@ -1,0 +1,242 @@
+-- `plans::subject` meets its contract: call by call.
+-- It rests on the definition alone.
+use borrow.Author.Needs.{needs}
+use Rattle.plans.proofs.subject.Statement.{statement}
+use Rattle.plans.proofs.subject.Tie as tie
+
+enum-known-a : tie.Need-enum-known-a
+enum-known-a c = search needs
+
+cast-result : tie.Need-cast-result
+cast-result c = search needs
+
+enum-known-a-2 : tie.Need-enum-known-a-2
+enum-known-a-2 c = search needs
+
+cast-result-2 : tie.Need-cast-result-2
+cast-result-2 c = search needs
+
+enum-known-a-3 : tie.Need-enum-known-a-3
+enum-known-a-3 c = search needs
+
+cast-result-3 : tie.Need-cast-result-3
+cast-result-3 c = search needs
+
+enum-known-a-4 : tie.Need-enum-known-a-4
+enum-known-a-4 c = search needs
+
+cast-result-4 : tie.Need-cast-result-4
+cast-result-4 c = search needs
+
+enum-told : tie.Need-enum-told
+enum-told c = search needs
+
+enum-known-a-5 : tie.Need-enum-known-a-5
+enum-known-a-5 c = search needs
+
+cast-result-5 : tie.Need-cast-result-5
+cast-result-5 c = search needs
+
+enum-known-a-6 : tie.Need-enum-known-a-6
+enum-known-a-6 c = search needs
+
+cast-result-6 : tie.Need-cast-result-6
+cast-result-6 c = search needs
+
+enum-known-a-7 : tie.Need-enum-known-a-7
+enum-known-a-7 c = search needs
+
+cast-result-7 : tie.Need-cast-result-7
+cast-result-7 c = search needs
+
+enum-told-2 : tie.Need-enum-told-2
+enum-told-2 c = search needs
+
+enum-known-a-8 : tie.Need-enum-known-a-8
+enum-known-a-8 c = search needs
+
+cast-result-8 : tie.Need-cast-result-8
+cast-result-8 c = search needs
+
+enum-known-a-9 : tie.Need-enum-known-a-9
+enum-known-a-9 c = search needs
+
+cast-result-9 : tie.Need-cast-result-9
+cast-result-9 c = search needs
+
+enum-known-a-10 : tie.Need-enum-known-a-10
+enum-known-a-10 c = search needs
+
+cast-result-10 : tie.Need-cast-result-10
+cast-result-10 c = search needs
+
+enum-known-a-11 : tie.Need-enum-known-a-11
+enum-known-a-11 c = search needs
+
+cast-result-11 : tie.Need-cast-result-11
+cast-result-11 c = search needs
+
+enum-known-a-12 : tie.Need-enum-known-a-12
+enum-known-a-12 c = search needs
+
+cast-result-12 : tie.Need-cast-result-12
+cast-result-12 c = search needs
+
+enum-told-3 : tie.Need-enum-told-3
+enum-told-3 c = search needs
+
+enum-told-4 : tie.Need-enum-told-4
+enum-told-4 c = search needs
+
+enum-told-5 : tie.Need-enum-told-5
+enum-told-5 c = search needs
+
+enum-told-6 : tie.Need-enum-told-6
+enum-told-6 c = search needs
+
+enum-told-7 : tie.Need-enum-told-7
+enum-told-7 c = search needs
+
+enum-told-8 : tie.Need-enum-told-8
+enum-told-8 c = search needs
+
+enum-told-9 : tie.Need-enum-told-9
+enum-told-9 c = search needs
+
+enum-told-10 : tie.Need-enum-told-10
+enum-told-10 c = search needs
+
+enum-told-11 : tie.Need-enum-told-11
+enum-told-11 c = search needs
+
+returns : tie.Need-returns
+returns c = rw (c .before .a .given .1)
+
+returns-2 : tie.Need-returns-2
+returns-2 c = rw (c .before .a2 .given .1)
+
+returns-3 : tie.Need-returns-3
+returns-3 c = rw (c .before .a3 .given .1)
+
+returns-4 : tie.Need-returns-4
+returns-4 c = rw (c .before .a4 .given .1)
+
+returns-5 : tie.Need-returns-5
+returns-5 c = rw (c .enum-told .given .1)
+
+returns-6 : tie.Need-returns-6
+returns-6 c = rw (c .before .a5 .given .1)
+
+returns-7 : tie.Need-returns-7
+returns-7 c = rw (c .before .a6 .given .1)
+
+returns-8 : tie.Need-returns-8
+returns-8 c = rw (c .before .a7 .given .1)
+
+returns-9 : tie.Need-returns-9
+returns-9 c = rw (c .enum-told2 .given .1)
+
+returns-10 : tie.Need-returns-10
+returns-10 c = rw (c .before .a8 .given .1)
+
+returns-11 : tie.Need-returns-11
+returns-11 c = rw (c .before .a9 .given .1)
+
+returns-12 : tie.Need-returns-12
+returns-12 c = rw (c .before .a10 .given .1)
+
+returns-13 : tie.Need-returns-13
+returns-13 c = rw (c .before .a11 .given .1)
+
+returns-14 : tie.Need-returns-14
+returns-14 c = rw (c .before .a12 .given .1)
+
+returns-15 : tie.Need-returns-15
+returns-15 c = rw (c .enum-told3 .given .1)
+
+returns-16 : tie.Need-returns-16
+returns-16 c = rw (c .enum-told4 .given .1)
+
+returns-17 : tie.Need-returns-17
+returns-17 c = rw (c .enum-told5 .given .1)
+
+returns-18 : tie.Need-returns-18
+returns-18 c = rw (c .enum-told6 .given .1)
+
+returns-19 : tie.Need-returns-19
+returns-19 c = rw (c .enum-told7 .given .1)
+
+returns-20 : tie.Need-returns-20
+returns-20 c = rw (c .enum-told8 .given .1)
+
+returns-21 : tie.Need-returns-21
+returns-21 c = rw (c .enum-told9 .given .1)
+
+returns-22 : tie.Need-returns-22
+returns-22 c = rw (c .enum-told10 .given .1)
+
+returns-23 : tie.Need-returns-23
+returns-23 c = rw (c .enum-told11 .given .1)
+
+pub subject-spec : {M : Type 1} → statement M
+subject-spec =
+    tie.close
+    (tie.spec
+    enum-known-a
+    cast-result
+    enum-known-a-2
+    cast-result-2
+    enum-known-a-3
+    cast-result-3
+    enum-known-a-4
+    cast-result-4
+    enum-told
+    enum-known-a-5
+    cast-result-5
+    enum-known-a-6
+    cast-result-6
+    enum-known-a-7
+    cast-result-7
+    enum-told-2
+    enum-known-a-8
+    cast-result-8
+    enum-known-a-9
+    cast-result-9
+    enum-known-a-10
+    cast-result-10
+    enum-known-a-11
+    cast-result-11
+    enum-known-a-12
+    cast-result-12
+    enum-told-3
+    enum-told-4
+    enum-told-5
+    enum-told-6
+    enum-told-7
+    enum-told-8
+    enum-told-9
+    enum-told-10
+    enum-told-11
+    returns
+    returns-2
+    returns-3
+    returns-4
+    returns-5
+    returns-6
+    returns-7
+    returns-8
+    returns-9
+    returns-10
+    returns-11
+    returns-12
+    returns-13
+    returns-14
+    returns-15
+    returns-16
+    returns-17
+    returns-18
+    returns-19
+    returns-20
+    returns-21
+    returns-22
+    returns-23)
