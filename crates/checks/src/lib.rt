@@ -1,10 +1,13 @@
 // What every service's plan begins with: the ranges of a call's numbers, and the plans that refuse and accept.
 // Each function is a definition of model/specs/Plan, for every value; it rests on model alone.
 ghost use mathlib.Core.Path.{_≡_};
+ghost use Rattle.model.specs.declared.Code.the-variants.{Pending};
+ghost use Rattle.model.specs.declared.Effect.the-variants.{Moves, Counts};
 ghost use Rattle.model.specs.Plan.{within, isTask, isPriority, isSemaphore, isMaximum, isTimeout, isSlice, does, answers, refused};
 use model::Code;
 use model::Effect;
 use model::Plan;
+use model::Task;
 
 pub const ENDLESS: u32 = 4294967295;
 
@@ -55,6 +58,15 @@ pub fn is_slice(v: u32) -> bool
 }
 
 // ---- plans
+pub fn refused(code: Code) -> Plan
+    ensures { λ r. ⌜ r ≡ refused code ⌝ }
+{
+    Plan {
+        code: code,
+        effect: Effect::Nothing,
+    }
+}
+
 pub fn does(effect: Effect) -> Plan
     ensures { λ r. ⌜ r ≡ does effect ⌝ }
 {
@@ -73,11 +85,35 @@ pub fn answers(code: Code, effect: Effect) -> Plan
     }
 }
 
-pub fn refused(code: Code) -> Plan
-    ensures { λ r. ⌜ r ≡ refused code ⌝ }
+// ---- the two effects of most services
+pub fn moves(task: u8, k: Task) -> Plan
+    ensures { λ r. ⌜ r ≡ does (Moves task k) ⌝ }
 {
-    Plan {
-        code: code,
-        effect: Effect::Nothing,
-    }
+    does(Effect::Moves {
+        task: task,
+        record: k,
+    })
+}
+
+pub fn counts(semaphore: u8, count: u16, maximum: u16) -> Plan
+    ensures { λ r. ⌜ r ≡ does (Counts semaphore count maximum) ⌝ }
+{
+    does(Effect::Counts {
+        semaphore: semaphore,
+        count: count,
+        maximum: maximum,
+    })
+}
+
+// a wait begins
+pub fn pending(task: u8, k: Task) -> Plan
+    ensures { λ r. ⌜ r ≡ answers Pending (Moves task k) ⌝ }
+{
+    answers(
+        Code::Pending,
+        Effect::Moves {
+            task: task,
+            record: k,
+        },
+    )
 }

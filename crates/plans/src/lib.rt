@@ -110,51 +110,39 @@ pub fn subject(a: Call, run: u8, first: u8) -> usize
 pub fn plan(c: Context, a: Call, run: u8, k: Task, x: Semaphore) -> Plan
     ensures { λ r. ⌜ r ≡ plan c a run k x ⌝ }
 {
-    let from_task = in_t(c);
-    let from_interrupt = in_i(c);
+    let mine_t = in_t(c);
+    let mine_i = in_i(c);
     match a {
         Call::TaskCreate {
             task,
             priority,
             option,
-        } => create(from_task, task, priority, option, k),
-        Call::TaskDelete { task } => delete(from_task, task, k),
-        Call::TaskActivate { task } => activate(from_task, task, k),
-        Call::TaskIactivate { task } => activate(from_interrupt, task, k),
-        Call::TaskExit => exit(from_task, run),
-        Call::TaskTerminate { task } => terminate(from_task, task, run, k),
-        Call::TaskSuspend { task } => suspend(from_task, task, k),
-        Call::TaskResume { task } => resume(from_task, task, k),
-        Call::TaskSleep { timeout } => sleep(from_task, timeout, run, k),
-        Call::TaskWakeup { task } => wakeup(from_task, task, k),
-        Call::TaskIwakeup { task } => wakeup(from_interrupt, task, k),
-        Call::TaskReleaseWait { task } => release_wait(from_task, task, k),
-        Call::TaskIreleaseWait { task } => release_wait(from_interrupt, task, k),
-        Call::TaskChangePriority { task, priority } => change_priority(
-            from_task,
-            task,
-            priority,
-            k,
-        ),
-        Call::SysTsliceTicks { level, slice } => tslice_ticks(from_task, level, slice),
-        Call::TickIntProcessing => tick(from_interrupt),
+        } => create(mine_t, task, priority, option, k),
+        Call::TaskDelete { task } => delete(mine_t, task, k),
+        Call::TaskActivate { task } => activate(mine_t, task, k),
+        Call::TaskIactivate { task } => activate(mine_i, task, k),
+        Call::TaskExit => exit(mine_t, run),
+        Call::TaskTerminate { task } => terminate(mine_t, task, run, k),
+        Call::TaskSuspend { task } => suspend(mine_t, task, k),
+        Call::TaskResume { task } => resume(mine_t, task, k),
+        Call::TaskSleep { timeout } => sleep(mine_t, timeout, run, k),
+        Call::TaskWakeup { task } => wakeup(mine_t, task, k),
+        Call::TaskIwakeup { task } => wakeup(mine_i, task, k),
+        Call::TaskReleaseWait { task } => release_wait(mine_t, task, k),
+        Call::TaskIreleaseWait { task } => release_wait(mine_i, task, k),
+        Call::TaskChangePriority { task, priority } => change_priority(mine_t, task, priority, k),
+        Call::SysTsliceTicks { level, slice } => tslice_ticks(mine_t, level, slice),
+        Call::TickIntProcessing => tick(mine_i),
         Call::SemCreate {
             semaphore,
             start,
             maximum,
-        } => sem_create(from_task, semaphore, start, maximum, x),
-        Call::SemDelete { semaphore } => sem_delete(from_task, semaphore, x),
-        Call::SemSignal { semaphore } => signal(from_task, semaphore, k, x),
-        Call::SemIsignal { semaphore } => signal(from_interrupt, semaphore, k, x),
-        Call::SemAcquire { semaphore, timeout } => acquire(
-            from_task,
-            semaphore,
-            timeout,
-            run,
-            k,
-            x,
-        ),
-        Call::SemPolling { semaphore } => polling(from_task, semaphore, x),
-        Call::SemIpolling { semaphore } => polling(from_interrupt, semaphore, x),
+        } => sem_create(mine_t, semaphore, start, maximum, x),
+        Call::SemDelete { semaphore } => sem_delete(mine_t, semaphore, x),
+        Call::SemSignal { semaphore } => signal(mine_t, semaphore, k, x),
+        Call::SemIsignal { semaphore } => signal(mine_i, semaphore, k, x),
+        Call::SemAcquire { semaphore, timeout } => acquire(mine_t, semaphore, timeout, run, k, x),
+        Call::SemPolling { semaphore } => polling(mine_t, semaphore, x),
+        Call::SemIpolling { semaphore } => polling(mine_i, semaphore, x),
     }
 }

@@ -2,11 +2,13 @@
 // Each function is a definition of model/specs/Service, for every value; it rests on checks and records.
 ghost use mathlib.Core.Path.{_≡_};
 ghost use Rattle.model.specs.Service.{semCreate, semDelete, signal, acquire, polling};
-use checks::answers;
+use checks::counts;
 use checks::does;
 use checks::is_maximum;
 use checks::is_semaphore;
 use checks::is_timeout;
+use checks::moves;
+use checks::pending;
 use checks::refused;
 use model::Code;
 use model::Effect;
@@ -40,11 +42,7 @@ pub fn sem_create(mine: bool, semaphore: u32, start: u32, maximum: u32, x: Semap
     let m = semaphore as u8;
     let n = start as u16;
     let v = maximum as u16;
-    does(Effect::Counts {
-        semaphore: m,
-        count: n,
-        maximum: v,
-    })
+    counts(m, n, v)
 }
 
 pub fn sem_delete(mine: bool, semaphore: u32, x: Semaphore) -> Plan
@@ -83,20 +81,12 @@ pub fn signal(mine: bool, semaphore: u32, k: Task, x: Semaphore) -> Plan
         return refused(Code::WContext);
     }
     if first != 0 {
-        let record = ended(k, 0);
-        return does(Effect::Moves {
-            task: first,
-            record: record,
-        });
+        return moves(first, ended(k, 0));
     }
     if count < maximum {
         let m = semaphore as u8;
         let n = count + 1;
-        return does(Effect::Counts {
-            semaphore: m,
-            count: n,
-            maximum: maximum,
-        });
+        return counts(m, n, maximum);
     }
     refused(Code::Overflow)
 }
@@ -125,21 +115,10 @@ pub fn acquire(mine: bool, semaphore: u32, timeout: u32, run: u8, k: Task, x: Se
     }
     let m = semaphore as u8;
     if count == 0 {
-        let record = waiting(k, 2, m, timeout);
-        return answers(
-            Code::Pending,
-            Effect::Moves {
-                task: run,
-                record: record,
-            },
-        );
+        return pending(run, waiting(k, 2, m, timeout));
     }
     let n = count - 1;
-    does(Effect::Counts {
-        semaphore: m,
-        count: n,
-        maximum: maximum,
-    })
+    counts(m, n, maximum)
 }
 
 pub fn polling(mine: bool, semaphore: u32, x: Semaphore) -> Plan
@@ -162,9 +141,5 @@ pub fn polling(mine: bool, semaphore: u32, x: Semaphore) -> Plan
     }
     let m = semaphore as u8;
     let n = count - 1;
-    does(Effect::Counts {
-        semaphore: m,
-        count: n,
-        maximum: maximum,
-    })
+    counts(m, n, maximum)
 }

@@ -5,6 +5,7 @@ ghost use Rattle.model.specs.Service.{create, delete, activate, exit, terminate
 use checks::does;
 use checks::is_priority;
 use checks::is_task;
+use checks::moves;
 use checks::refused;
 use model::Code;
 use model::Effect;
@@ -39,11 +40,7 @@ pub fn create(mine: bool, task: u32, priority: u32, option: u32, k: Task) -> Pla
     let t = task as u8;
     let p = priority as u8;
     let o = option as u8;
-    let record = created(p, o);
-    does(Effect::Moves {
-        task: t,
-        record: record,
-    })
+    moves(t, created(p, o))
 }
 
 pub fn delete(mine: bool, task: u32, k: Task) -> Plan
@@ -65,11 +62,7 @@ pub fn delete(mine: bool, task: u32, k: Task) -> Plan
         return refused(Code::WContext);
     }
     let t = task as u8;
-    let record = no_task();
-    does(Effect::Moves {
-        task: t,
-        record: record,
-    })
+    moves(t, no_task())
 }
 
 pub fn activate(mine: bool, task: u32, k: Task) -> Plan
@@ -90,20 +83,12 @@ pub fn activate(mine: bool, task: u32, k: Task) -> Plan
     }
     let t = task as u8;
     if active == 0 {
-        let record = activated(k);
-        return does(Effect::Moves {
-            task: t,
-            record: record,
-        });
+        return moves(t, activated(k));
     }
     if activations != 0 {
         return refused(Code::Overflow);
     }
-    let record = with_activations(k, 1);
-    does(Effect::Moves {
-        task: t,
-        record: record,
-    })
+    moves(t, with_activations(k, 1))
 }
 
 pub fn exit(mine: bool, run: u8) -> Plan

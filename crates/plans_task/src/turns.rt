@@ -6,6 +6,7 @@ use checks::does;
 use checks::is_priority;
 use checks::is_slice;
 use checks::is_task;
+use checks::moves;
 use checks::refused;
 use model::Code;
 use model::Effect;
@@ -50,11 +51,7 @@ pub fn change_priority(mine: bool, task: u32, priority: u32, k: Task) -> Plan
     if next == current {
         return does(Effect::Nothing);
     }
-    let record = with_priority(k, next);
-    does(Effect::Moves {
-        task: t,
-        record: record,
-    })
+    moves(t, with_priority(k, next))
 }
 
 pub fn tslice_ticks(mine: bool, level: u32, slice: u32) -> Plan

@@ -2,13 +2,12 @@
 // Each function is a definition of model/specs/Service, for every value; it rests on checks and records.
 ghost use mathlib.Core.Path.{_≡_};
 ghost use Rattle.model.specs.Service.{suspend, resume, sleep, wakeup, releaseWait};
-use checks::answers;
-use checks::does;
 use checks::is_task;
 use checks::is_timeout;
+use checks::moves;
+use checks::pending;
 use checks::refused;
 use model::Code;
-use model::Effect;
 use model::Plan;
 use model::Task;
 use records::ended;
@@ -39,11 +38,7 @@ pub fn suspend(mine: bool, task: u32, k: Task) -> Plan
         return refused(Code::Overflow);
     }
     let t = task as u8;
-    let record = with_suspended(k, 1);
-    does(Effect::Moves {
-        task: t,
-        record: record,
-    })
+    moves(t, with_suspended(k, 1))
 }
 
 pub fn resume(mine: bool, task: u32, k: Task) -> Plan
@@ -65,11 +60,7 @@ pub fn resume(mine: bool, task: u32, k: Task) -> Plan
         return refused(Code::WState);
     }
     let t = task as u8;
-    let record = with_suspended(k, 0);
-    does(Effect::Moves {
-        task: t,
-        record: record,
-    })
+    moves(t, with_suspended(k, 0))
 }
 
 pub fn sleep(mine: bool, timeout: u32, run: u8, k: Task) -> Plan
@@ -87,20 +78,9 @@ pub fn sleep(mine: bool, timeout: u32, run: u8, k: Task) -> Plan
         return refused(Code::WContext);
     }
     if wakeups == 0 {
-        let record = waiting(k, 1, 0, timeout);
-        return answers(
-            Code::Pending,
-            Effect::Moves {
-                task: run,
-                record: record,
-            },
-        );
+        return pending(run, waiting(k, 1, 0, timeout));
     }
-    let record = with_wakeups(k, 0);
-    does(Effect::Moves {
-        task: run,
-        record: record,
-    })
+    moves(run, with_wakeups(k, 0))
 }
 
 pub fn wakeup(mine: bool, task: u32, k: Task) -> Plan
@@ -125,20 +105,12 @@ pub fn wakeup(mine: bool, task: u32, k: Task) -> Plan
     }
     let t = task as u8;
     if wait == 1 {
-        let record = ended(k, 0);
-        return does(Effect::Moves {
-            task: t,
-            record: record,
-        });
+        return moves(t, ended(k, 0));
     }
     if wakeups != 0 {
         return refused(Code::Overflow);
     }
-    let record = with_wakeups(k, 1);
-    does(Effect::Moves {
-        task: t,
-        record: record,
-    })
+    moves(t, with_wakeups(k, 1))
 }
 
 pub fn release_wait(mine: bool, task: u32, k: Task) -> Plan
@@ -160,9 +132,5 @@ pub fn release_wait(mine: bool, task: u32, k: Task) -> Plan
         return refused(Code::WContext);
     }
     let t = task as u8;
-    let record = ended(k, 11);
-    does(Effect::Moves {
-        task: t,
-        record: record,
-    })
+    moves(t, ended(k, 11))
 }

@@ -55,22 +55,22 @@ cast-m c = omega (arith, within-top _ _ _ (holds (c .before .before .before .bef
 waiting-requires : tie.Need-waiting-requires
 waiting-requires c κs = search needs
 
-answers-requires : tie.Need-answers-requires
-answers-requires c κs = search needs
+pending-requires : tie.Need-pending-requires
+pending-requires c κs = search needs
 
 returns-6 : tie.Need-returns-6
 unfolding acquire
-returns-6 c = rw (c .answers .ensures, c .before .waiting .ensures, holds (c .before .before .before .before .before .before .before .before .before .is-semaphore .ensures) (c .before .before .before .before .before .before .before .before .if1 .left), holds (c .before .before .before .before .before .before .before .is-timeout .ensures) (c .before .before .before .before .before .before .if2 .left), ne-eqb _ _ (c .before .before .before .before .before .if3 .left), not-false (c .before .before .before .before .before .before .before .before .before .before .args .mine) (c .before .before .before .before .if4 .left), ne-eqb _ _ (c .before .before .before .if5 .left), eq-eqb _ _ (c .before .before .if6 .taken))
+returns-6 c = rw (c .pending .ensures, c .before .waiting .ensures, holds (c .before .before .before .before .before .before .before .before .before .is-semaphore .ensures) (c .before .before .before .before .before .before .before .before .if1 .left), holds (c .before .before .before .before .before .before .before .is-timeout .ensures) (c .before .before .before .before .before .before .if2 .left), ne-eqb _ _ (c .before .before .before .before .before .if3 .left), not-false (c .before .before .before .before .before .before .before .before .before .before .args .mine) (c .before .before .before .before .if4 .left), ne-eqb _ _ (c .before .before .before .if5 .left), eq-eqb _ _ (c .before .before .if6 .taken))
 
 sub-n : tie.Need-sub-n
 sub-n c = search needs
 
-does-requires : tie.Need-does-requires
-does-requires c κs = search needs
+counts-requires : tie.Need-counts-requires
+counts-requires c κs = search needs
 
 returns-7 : tie.Need-returns-7
 unfolding acquire
-returns-7 c = rw (c .does .ensures, holds (c .before .before .before .before .before .before .before .before .is-semaphore .ensures) (c .before .before .before .before .before .before .before .if1 .left), holds (c .before .before .before .before .before .before .is-timeout .ensures) (c .before .before .before .before .before .if2 .left), ne-eqb _ _ (c .before .before .before .before .if3 .left), not-false (c .before .before .before .before .before .before .before .before .before .args .mine) (c .before .before .before .if4 .left), ne-eqb _ _ (c .before .before .if5 .left), ne-eqb _ _ (c .before .if6 .left))
+returns-7 c = rw (c .counts .ensures, holds (c .before .before .before .before .before .before .before .before .is-semaphore .ensures) (c .before .before .before .before .before .before .before .if1 .left), holds (c .before .before .before .before .before .before .is-timeout .ensures) (c .before .before .before .before .before .if2 .left), ne-eqb _ _ (c .before .before .before .before .if3 .left), not-false (c .before .before .before .before .before .before .before .before .before .args .mine) (c .before .before .before .if4 .left), ne-eqb _ _ (c .before .before .if5 .left), ne-eqb _ _ (c .before .if6 .left))
 
 pub acquire-spec : {M : Type 1} → statement M
 acquire-spec =
@@ -90,8 +90,8 @@ acquire-spec =
     returns-5
     cast-m
     waiting-requires
-    answers-requires
+    pending-requires
     returns-6
     sub-n
-    does-requires
+    counts-requires
     returns-7)

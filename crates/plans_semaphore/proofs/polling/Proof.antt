@@ -45,12 +45,12 @@ cast-m c = omega (arith, within-top _ _ _ (holds (c .before .before .before .bef
 sub-n : tie.Need-sub-n
 sub-n c = search needs
 
-does-requires : tie.Need-does-requires
-does-requires c κs = search needs
+counts-requires : tie.Need-counts-requires
+counts-requires c κs = search needs
 
 returns-5 : tie.Need-returns-5
 unfolding polling
-returns-5 c = rw (c .does .ensures, holds (c .before .before .before .before .before .is-semaphore .ensures) (c .before .before .before .before .if1 .left), ne-eqb _ _ (c .before .before .before .if2 .left), not-false (c .before .before .before .before .before .before .args .mine) (c .before .before .if3 .left), ne-eqb _ _ (c .before .if4 .left))
+returns-5 c = rw (c .counts .ensures, holds (c .before .before .before .before .before .is-semaphore .ensures) (c .before .before .before .before .if1 .left), ne-eqb _ _ (c .before .before .before .if2 .left), not-false (c .before .before .before .before .before .before .args .mine) (c .before .before .if3 .left), ne-eqb _ _ (c .before .if4 .left))
 
 pub polling-spec : {M : Type 1} → statement M
 polling-spec =
@@ -67,5 +67,5 @@ polling-spec =
     returns-4
     cast-m
     sub-n
-    does-requires
+    counts-requires
     returns-5)

@@ -58,12 +58,12 @@ cast-n c = omega (arith, within-top _ _ _ (holds (c .before .before .before .bef
 cast-v : tie.Need-cast-v
 cast-v c = omega (arith, within-top _ _ _ (holds (c .before .before .before .before .is-maximum .ensures) (c .before .before .before .if2 .left)))
 
-does-requires : tie.Need-does-requires
-does-requires c κs = search needs
+counts-requires : tie.Need-counts-requires
+counts-requires c κs = search needs
 
 returns-6 : tie.Need-returns-6
 unfolding semCreate
-returns-6 c = rw (c .does .ensures, holds (c .before .before .before .before .before .before .before .is-semaphore .ensures) (c .before .before .before .before .before .before .if1 .left), holds (c .before .before .before .before .before .is-maximum .ensures) (c .before .before .before .before .if2 .left), le-leb _ _ (c .before .before .before .if3 .left), eq-eqb _ _ (c .before .before .if4 .left), not-false (c .before .before .before .before .before .before .before .before .args .mine) (c .before .if5 .left))
+returns-6 c = rw (c .counts .ensures, holds (c .before .before .before .before .before .before .before .is-semaphore .ensures) (c .before .before .before .before .before .before .if1 .left), holds (c .before .before .before .before .before .is-maximum .ensures) (c .before .before .before .before .if2 .left), le-leb _ _ (c .before .before .before .if3 .left), eq-eqb _ _ (c .before .before .if4 .left), not-false (c .before .before .before .before .before .before .before .before .args .mine) (c .before .if5 .left))
 
 pub sem-create-spec : {M : Type 1} → statement M
 sem-create-spec =
@@ -84,5 +84,5 @@ sem-create-spec =
     cast-m
     cast-n
     cast-v
-    does-requires
+    counts-requires
     returns-6)

@@ -35,12 +35,12 @@ returns-3 c = rw (c .refused3 .ensures, holds (c .before .before .before .before
 ended-requires : tie.Need-ended-requires
 ended-requires c κs = search needs
 
-does-requires : tie.Need-does-requires
-does-requires c κs = search needs
+moves-requires : tie.Need-moves-requires
+moves-requires c κs = search needs
 
 returns-4 : tie.Need-returns-4
 unfolding signal
-returns-4 c = rw (c .does .ensures, c .before .ended .ensures, holds (c .before .before .before .before .before .before .is-semaphore .ensures) (c .before .before .before .before .before .if1 .left), ne-eqb _ _ (c .before .before .before .before .if2 .left), not-false (c .before .before .before .before .before .before .before .args .mine) (c .before .before .before .if3 .left), ne-eqb _ _ (c .before .before .if4 .taken))
+returns-4 c = rw (c .moves .ensures, c .before .ended .ensures, holds (c .before .before .before .before .before .before .is-semaphore .ensures) (c .before .before .before .before .before .if1 .left), ne-eqb _ _ (c .before .before .before .before .if2 .left), not-false (c .before .before .before .before .before .before .before .args .mine) (c .before .before .before .if3 .left), ne-eqb _ _ (c .before .before .if4 .taken))
 
 cast-m : tie.Need-cast-m
 cast-m c = omega (arith, within-top _ _ _ (holds (c .before .before .before .before .before .is-semaphore .ensures) (c .before .before .before .before .if1 .left)))
@@ -48,12 +48,12 @@ cast-m c = omega (arith, within-top _ _ _ (holds (c .before .before .before .bef
 add-n : tie.Need-add-n
 add-n c = search needs
 
-does-requires-2 : tie.Need-does-requires-2
-does-requires-2 c κs = search needs
+counts-requires : tie.Need-counts-requires
+counts-requires c κs = search needs
 
 returns-5 : tie.Need-returns-5
 unfolding signal
-returns-5 c = rw (c .does2 .ensures, holds (c .before .before .before .before .before .before .is-semaphore .ensures) (c .before .before .before .before .before .if1 .left), ne-eqb _ _ (c .before .before .before .before .if2 .left), not-false (c .before .before .before .before .before .before .before .args .mine) (c .before .before .before .if3 .left), eq-eqb _ _ (c .before .before .if4 .left), lt-ltb _ _ (c .before .if5 .taken))
+returns-5 c = rw (c .counts .ensures, holds (c .before .before .before .before .before .before .is-semaphore .ensures) (c .before .before .before .before .before .if1 .left), ne-eqb _ _ (c .before .before .before .before .if2 .left), not-false (c .before .before .before .before .before .before .before .args .mine) (c .before .before .before .if3 .left), eq-eqb _ _ (c .before .before .if4 .left), lt-ltb _ _ (c .before .if5 .taken))
 
 refused-requires-4 : tie.Need-refused-requires-4
 refused-requires-4 c κs = search needs
@@ -74,11 +74,11 @@ signal-spec =
     refused-requires-3
     returns-3
     ended-requires
-    does-requires
+    moves-requires
     returns-4
     cast-m
     add-n
-    does-requires-2
+    counts-requires
     returns-5
     refused-requires-4
     returns-6)

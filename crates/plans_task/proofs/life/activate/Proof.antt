@@ -38,12 +38,12 @@ cast-t c = omega (arith, within-top _ _ _ (holds (c .before .before .before .is-
 activated-requires : tie.Need-activated-requires
 activated-requires c κs = search needs
 
-does-requires : tie.Need-does-requires
-does-requires c κs = search needs
+moves-requires : tie.Need-moves-requires
+moves-requires c κs = search needs
 
 returns-4 : tie.Need-returns-4
 unfolding activate
-returns-4 c = rw (c .does .ensures, c .before .activated .ensures, holds (c .before .before .before .before .before .before .is-task .ensures) (c .before .before .before .before .before .if1 .left), ne-eqb _ _ (c .before .before .before .before .if2 .left), not-false (c .before .before .before .before .before .before .before .args .mine) (c .before .before .before .if3 .left), eq-eqb _ _ (c .before .before .if4 .taken))
+returns-4 c = rw (c .moves .ensures, c .before .activated .ensures, holds (c .before .before .before .before .before .before .is-task .ensures) (c .before .before .before .before .before .if1 .left), ne-eqb _ _ (c .before .before .before .before .if2 .left), not-false (c .before .before .before .before .before .before .before .args .mine) (c .before .before .before .if3 .left), eq-eqb _ _ (c .before .before .if4 .taken))
 
 refused-requires-4 : tie.Need-refused-requires-4
 refused-requires-4 c κs = search needs
@@ -55,12 +55,12 @@ returns-5 c = rw (c .refused4 .ensures, holds (c .before .before .before .before
 with-activations-requires : tie.Need-with-activations-requires
 with-activations-requires c κs = search needs
 
-does-requires-2 : tie.Need-does-requires-2
-does-requires-2 c κs = search needs
+moves-requires-2 : tie.Need-moves-requires-2
+moves-requires-2 c κs = search needs
 
 returns-6 : tie.Need-returns-6
 unfolding activate
-returns-6 c = rw (c .does2 .ensures, c .before .with-activations .ensures, holds (c .before .before .before .before .before .before .before .is-task .ensures) (c .before .before .before .before .before .before .if1 .left), ne-eqb _ _ (c .before .before .before .before .before .if2 .left), not-false (c .before .before .before .before .before .before .before .before .args .mine) (c .before .before .before .before .if3 .left), ne-eqb _ _ (c .before .before .before .if4 .left), eq-eqb _ _ (c .before .before .if5 .left))
+returns-6 c = rw (c .moves2 .ensures, c .before .with-activations .ensures, holds (c .before .before .before .before .before .before .before .is-task .ensures) (c .before .before .before .before .before .before .if1 .left), ne-eqb _ _ (c .before .before .before .before .before .if2 .left), not-false (c .before .before .before .before .before .before .before .before .args .mine) (c .before .before .before .before .if3 .left), ne-eqb _ _ (c .before .before .before .if4 .left), eq-eqb _ _ (c .before .before .if5 .left))
 
 pub activate-spec : {M : Type 1} → statement M
 activate-spec =
@@ -75,10 +75,10 @@ activate-spec =
     returns-3
     cast-t
     activated-requires
-    does-requires
+    moves-requires
     returns-4
     refused-requires-4
     returns-5
     with-activations-requires
-    does-requires-2
+    moves-requires-2
     returns-6)

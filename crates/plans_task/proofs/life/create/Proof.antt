@@ -61,12 +61,12 @@ cast-o c = search needs
 created-requires : tie.Need-created-requires
 created-requires c κs = search needs
 
-does-requires : tie.Need-does-requires
-does-requires c κs = search needs
+moves-requires : tie.Need-moves-requires
+moves-requires c κs = search needs
 
 returns-6 : tie.Need-returns-6
 unfolding create
-returns-6 c = rw (c .does .ensures, c .before .created .ensures, holds (c .before .before .before .before .before .before .before .before .is-task .ensures) (c .before .before .before .before .before .before .before .if1 .left), holds (c .before .before .before .before .before .before .is-priority .ensures) (c .before .before .before .before .before .if2 .left), le-leb _ _ (c .before .before .before .before .if3 .left), eq-eqb _ _ (c .before .before .before .if4 .left), not-false (c .before .before .before .before .before .before .before .before .before .args .mine) (c .before .before .if5 .left))
+returns-6 c = rw (c .moves .ensures, c .before .created .ensures, holds (c .before .before .before .before .before .before .before .before .is-task .ensures) (c .before .before .before .before .before .before .before .if1 .left), holds (c .before .before .before .before .before .before .is-priority .ensures) (c .before .before .before .before .before .if2 .left), le-leb _ _ (c .before .before .before .before .if3 .left), eq-eqb _ _ (c .before .before .before .if4 .left), not-false (c .before .before .before .before .before .before .before .before .before .args .mine) (c .before .before .if5 .left))
 
 pub create-spec : {M : Type 1} → statement M
 create-spec =
@@ -88,5 +88,5 @@ create-spec =
     cast-p
     cast-o
     created-requires
-    does-requires
+    moves-requires
     returns-6)

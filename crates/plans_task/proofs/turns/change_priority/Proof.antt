@@ -65,12 +65,12 @@ returns-6 c = rw (c .does .ensures, ← c .before .before .wanted .ensures, hold
 with-priority-requires : tie.Need-with-priority-requires
 with-priority-requires c κs = search needs
 
-does-requires-2 : tie.Need-does-requires-2
-does-requires-2 c κs = search needs
+moves-requires : tie.Need-moves-requires
+moves-requires c κs = search needs
 
 returns-7 : tie.Need-returns-7
 unfolding changePriority
-returns-7 c = rw (c .does2 .ensures, c .before .with-priority .ensures, ← c .before .before .before .wanted .ensures, holds (c .before .before .before .before .before .before .before .before .before .is-task .ensures) (c .before .before .before .before .before .before .before .before .if1 .left), le-leb _ _ (c .before .before .before .before .before .before .before .if2 .left), ne-eqb _ _ (c .before .before .before .before .before .before .if3 .left), not-false (c .before .before .before .before .before .before .before .before .before .before .args .mine) (c .before .before .before .before .before .if4 .left), ne-eqb _ _ (c .before .before .before .before .if5 .left), ne-eqb _ _ (c .before .before .if6 .left))
+returns-7 c = rw (c .moves .ensures, c .before .with-priority .ensures, ← c .before .before .before .wanted .ensures, holds (c .before .before .before .before .before .before .before .before .before .is-task .ensures) (c .before .before .before .before .before .before .before .before .if1 .left), le-leb _ _ (c .before .before .before .before .before .before .before .if2 .left), ne-eqb _ _ (c .before .before .before .before .before .before .if3 .left), not-false (c .before .before .before .before .before .before .before .before .before .before .args .mine) (c .before .before .before .before .before .if4 .left), ne-eqb _ _ (c .before .before .before .before .if5 .left), ne-eqb _ _ (c .before .before .if6 .left))
 
 pub change-priority-spec : {M : Type 1} → statement M
 change-priority-spec =
@@ -93,5 +93,5 @@ change-priority-spec =
     does-requires
     returns-6
     with-priority-requires
-    does-requires-2
+    moves-requires
     returns-7)

@@ -45,12 +45,12 @@ cast-t c = omega (arith, within-top _ _ _ (holds (c .before .before .before .bef
 with-suspended-requires : tie.Need-with-suspended-requires
 with-suspended-requires c κs = search needs
 
-does-requires : tie.Need-does-requires
-does-requires c κs = search needs
+moves-requires : tie.Need-moves-requires
+moves-requires c κs = search needs
 
 returns-5 : tie.Need-returns-5
 unfolding resume
-returns-5 c = rw (c .does .ensures, c .before .with-suspended .ensures, holds (c .before .before .before .before .before .before .is-task .ensures) (c .before .before .before .before .before .if1 .left), ne-eqb _ _ (c .before .before .before .before .if2 .left), not-false (c .before .before .before .before .before .before .before .args .mine) (c .before .before .before .if3 .left), ne-eqb _ _ (c .before .before .if4 .left))
+returns-5 c = rw (c .moves .ensures, c .before .with-suspended .ensures, holds (c .before .before .before .before .before .before .is-task .ensures) (c .before .before .before .before .before .if1 .left), ne-eqb _ _ (c .before .before .before .before .if2 .left), not-false (c .before .before .before .before .before .before .before .args .mine) (c .before .before .before .if3 .left), ne-eqb _ _ (c .before .before .if4 .left))
 
 pub resume-spec : {M : Type 1} → statement M
 resume-spec =
@@ -67,5 +67,5 @@ resume-spec =
     returns-4
     cast-t
     with-suspended-requires
-    does-requires
+    moves-requires
     returns-5)

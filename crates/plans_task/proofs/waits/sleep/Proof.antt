@@ -34,22 +34,22 @@ returns-3 c = rw (c .refused3 .ensures, holds (c .before .before .before .before
 waiting-requires : tie.Need-waiting-requires
 waiting-requires c κs = search needs
 
-answers-requires : tie.Need-answers-requires
-answers-requires c κs = search needs
+pending-requires : tie.Need-pending-requires
+pending-requires c κs = search needs
 
 returns-4 : tie.Need-returns-4
 unfolding sleep
-returns-4 c = rw (c .answers .ensures, c .before .waiting .ensures, holds (c .before .before .before .before .before .before .is-timeout .ensures) (c .before .before .before .before .before .if1 .left), not-false (c .before .before .before .before .before .before .before .args .mine) (c .before .before .before .before .if2 .left), ne-eqb _ _ (c .before .before .before .if3 .left), eq-eqb _ _ (c .before .before .if4 .taken))
+returns-4 c = rw (c .pending .ensures, c .before .waiting .ensures, holds (c .before .before .before .before .before .before .is-timeout .ensures) (c .before .before .before .before .before .if1 .left), not-false (c .before .before .before .before .before .before .before .args .mine) (c .before .before .before .before .if2 .left), ne-eqb _ _ (c .before .before .before .if3 .left), eq-eqb _ _ (c .before .before .if4 .taken))
 
 with-wakeups-requires : tie.Need-with-wakeups-requires
 with-wakeups-requires c κs = search needs
 
-does-requires : tie.Need-does-requires
-does-requires c κs = search needs
+moves-requires : tie.Need-moves-requires
+moves-requires c κs = search needs
 
 returns-5 : tie.Need-returns-5
 unfolding sleep
-returns-5 c = rw (c .does .ensures, c .before .with-wakeups .ensures, holds (c .before .before .before .before .before .before .is-timeout .ensures) (c .before .before .before .before .before .if1 .left), not-false (c .before .before .before .before .before .before .before .args .mine) (c .before .before .before .before .if2 .left), ne-eqb _ _ (c .before .before .before .if3 .left), ne-eqb _ _ (c .before .before .if4 .left))
+returns-5 c = rw (c .moves .ensures, c .before .with-wakeups .ensures, holds (c .before .before .before .before .before .before .is-timeout .ensures) (c .before .before .before .before .before .if1 .left), not-false (c .before .before .before .before .before .before .before .args .mine) (c .before .before .before .before .if2 .left), ne-eqb _ _ (c .before .before .before .if3 .left), ne-eqb _ _ (c .before .before .if4 .left))
 
 pub sleep-spec : {M : Type 1} → statement M
 sleep-spec =
@@ -63,8 +63,8 @@ sleep-spec =
     refused-requires-3
     returns-3
     waiting-requires
-    answers-requires
+    pending-requires
     returns-4
     with-wakeups-requires
-    does-requires
+    moves-requires
     returns-5)

@@ -52,12 +52,12 @@ cast-t c = omega (arith, within-top _ _ _ (holds (c .before .before .before .bef
 with-suspended-requires : tie.Need-with-suspended-requires
 with-suspended-requires c κs = search needs
 
-does-requires : tie.Need-does-requires
-does-requires c κs = search needs
+moves-requires : tie.Need-moves-requires
+moves-requires c κs = search needs
 
 returns-6 : tie.Need-returns-6
 unfolding suspend
-returns-6 c = rw (c .does .ensures, c .before .with-suspended .ensures, holds (c .before .before .before .before .before .before .before .is-task .ensures) (c .before .before .before .before .before .before .if1 .left), ne-eqb _ _ (c .before .before .before .before .before .if2 .left), not-false (c .before .before .before .before .before .before .before .before .args .mine) (c .before .before .before .before .if3 .left), ne-eqb _ _ (c .before .before .before .if4 .left), eq-eqb _ _ (c .before .before .if5 .left))
+returns-6 c = rw (c .moves .ensures, c .before .with-suspended .ensures, holds (c .before .before .before .before .before .before .before .is-task .ensures) (c .before .before .before .before .before .before .if1 .left), ne-eqb _ _ (c .before .before .before .before .before .if2 .left), not-false (c .before .before .before .before .before .before .before .before .args .mine) (c .before .before .before .before .if3 .left), ne-eqb _ _ (c .before .before .before .if4 .left), eq-eqb _ _ (c .before .before .if5 .left))
 
 pub suspend-spec : {M : Type 1} → statement M
 suspend-spec =
@@ -76,5 +76,5 @@ suspend-spec =
     returns-5
     cast-t
     with-suspended-requires
-    does-requires
+    moves-requires
     returns-6)

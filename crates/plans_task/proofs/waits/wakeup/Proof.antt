@@ -45,12 +45,12 @@ cast-t c = omega (arith, within-top _ _ _ (holds (c .before .before .before .bef
 ended-requires : tie.Need-ended-requires
 ended-requires c κs = search needs
 
-does-requires : tie.Need-does-requires
-does-requires c κs = search needs
+moves-requires : tie.Need-moves-requires
+moves-requires c κs = search needs
 
 returns-5 : tie.Need-returns-5
 unfolding wakeup
-returns-5 c = rw (c .does .ensures, c .before .ended .ensures, holds (c .before .before .before .before .before .before .before .is-task .ensures) (c .before .before .before .before .before .before .if1 .left), ne-eqb _ _ (c .before .before .before .before .before .if2 .left), not-false (c .before .before .before .before .before .before .before .before .args .mine) (c .before .before .before .before .if3 .left), ne-eqb _ _ (c .before .before .before .if4 .left), eq-eqb _ _ (c .before .before .if5 .taken))
+returns-5 c = rw (c .moves .ensures, c .before .ended .ensures, holds (c .before .before .before .before .before .before .before .is-task .ensures) (c .before .before .before .before .before .before .if1 .left), ne-eqb _ _ (c .before .before .before .before .before .if2 .left), not-false (c .before .before .before .before .before .before .before .before .args .mine) (c .before .before .before .before .if3 .left), ne-eqb _ _ (c .before .before .before .if4 .left), eq-eqb _ _ (c .before .before .if5 .taken))
 
 refused-requires-5 : tie.Need-refused-requires-5
 refused-requires-5 c κs = search needs
@@ -62,12 +62,12 @@ returns-6 c = rw (c .refused5 .ensures, holds (c .before .before .before .before
 with-wakeups-requires : tie.Need-with-wakeups-requires
 with-wakeups-requires c κs = search needs
 
-does-requires-2 : tie.Need-does-requires-2
-does-requires-2 c κs = search needs
+moves-requires-2 : tie.Need-moves-requires-2
+moves-requires-2 c κs = search needs
 
 returns-7 : tie.Need-returns-7
 unfolding wakeup
-returns-7 c = rw (c .does2 .ensures, c .before .with-wakeups .ensures, holds (c .before .before .before .before .before .before .before .before .is-task .ensures) (c .before .before .before .before .before .before .before .if1 .left), ne-eqb _ _ (c .before .before .before .before .before .before .if2 .left), not-false (c .before .before .before .before .before .before .before .before .before .args .mine) (c .before .before .before .before .before .if3 .left), ne-eqb _ _ (c .before .before .before .before .if4 .left), ne-eqb _ _ (c .before .before .before .if5 .left), eq-eqb _ _ (c .before .before .if6 .left))
+returns-7 c = rw (c .moves2 .ensures, c .before .with-wakeups .ensures, holds (c .before .before .before .before .before .before .before .before .is-task .ensures) (c .before .before .before .before .before .before .before .if1 .left), ne-eqb _ _ (c .before .before .before .before .before .before .if2 .left), not-false (c .before .before .before .before .before .before .before .before .before .args .mine) (c .before .before .before .before .before .if3 .left), ne-eqb _ _ (c .before .before .before .before .if4 .left), ne-eqb _ _ (c .before .before .before .if5 .left), eq-eqb _ _ (c .before .before .if6 .left))
 
 pub wakeup-spec : {M : Type 1} → statement M
 wakeup-spec =
@@ -84,10 +84,10 @@ wakeup-spec =
     returns-4
     cast-t
     ended-requires
-    does-requires
+    moves-requires
     returns-5
     refused-requires-5
     returns-6
     with-wakeups-requires
-    does-requires-2
+    moves-requires-2
     returns-7)
