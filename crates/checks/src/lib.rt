@@ -1,5 +1,5 @@
 // What every service's plan begins with: the ranges of a call's numbers, and the plans that refuse and accept.
-// Each function is a definition of model/specs/Plan, for every value; it rests on model alone.
+// Each function is a definition of model/specs/Plan, for every value; it rests on model, and on records for the timeout that never ends.
 ghost use mathlib.Core.Path.{_≡_};
 ghost use Rattle.model.specs.declared.Code.the-variants.{Pending};
 ghost use Rattle.model.specs.declared.Effect.the-variants.{Moves, Counts};
@@ -8,8 +8,7 @@ use model::Code;
 use model::Effect;
 use model::Plan;
 use model::Task;
-
-pub const ENDLESS: u32 = 4294967295;
+use records::ENDLESS;
 
 // ---- ranges
 pub fn within(low: u32, n: u32, top: u32) -> bool

@@ -1,9 +1,8 @@
-// The plans of the services on semaphores, in the order of document 01.
+// The plans of the services on semaphores; deletion has a file of its own, where an edit can name its lines.
 // Each function is a definition of model/specs/Service, for every value; it rests on checks and records.
 ghost use mathlib.Core.Path.{_≡_};
-ghost use Rattle.model.specs.Service.{semCreate, semDelete, signal, acquire, polling};
+ghost use Rattle.model.specs.Service.{semCreate, signal, acquire, polling};
 use checks::counts;
-use checks::does;
 use checks::is_maximum;
 use checks::is_semaphore;
 use checks::is_timeout;
@@ -11,12 +10,13 @@ use checks::moves;
 use checks::pending;
 use checks::refused;
 use model::Code;
-use model::Effect;
 use model::Plan;
 use model::Semaphore;
 use model::Task;
 use records::ended;
 use records::waiting;
+
+pub mod delete;
 
 pub fn sem_create(mine: bool, semaphore: u32, start: u32, maximum: u32, x: Semaphore) -> Plan
     ensures { λ r. ⌜ r ≡ semCreate mine semaphore start maximum x ⌝ }
@@ -43,24 +43,6 @@ pub fn sem_create(mine: bool, semaphore: u32, start: u32, maximum: u32, x: Semap
     let n = start as u16;
     let v = maximum as u16;
     counts(m, n, v)
-}
-
-pub fn sem_delete(mine: bool, semaphore: u32, x: Semaphore) -> Plan
-    ensures { λ r. ⌜ r ≡ semDelete mine semaphore x ⌝ }
-{
-    let maximum = x.maximum;
-    let numbered = is_semaphore(semaphore);
-    if !numbered {
-        return refused(Code::WrongParam);
-    }
-    if maximum == 0 {
-        return refused(Code::NoExs);
-    }
-    if !mine {
-        return refused(Code::WContext);
-    }
-    let m = semaphore as u8;
-    does(Effect::Deletes { semaphore: m })
 }
 
 // k is the record of the first waiter.
@@ -140,6 +122,5 @@ pub fn polling(mine: bool, semaphore: u32, x: Semaphore) -> Plan
         return refused(Code::Timeout);
     }
     let m = semaphore as u8;
-    let n = count - 1;
-    counts(m, n, maximum)
+    counts(m, count - 1, maximum)
 }

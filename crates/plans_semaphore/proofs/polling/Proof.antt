@@ -42,8 +42,8 @@ returns-4 c = rw (c .refused4 .ensures, holds (c .before .before .before .before
 cast-m : tie.Need-cast-m
 cast-m c = omega (arith, within-top _ _ _ (holds (c .before .before .before .before .is-semaphore .ensures) (c .before .before .before .if1 .left)))
 
-sub-n : tie.Need-sub-n
-sub-n c = search needs
+sub-counts : tie.Need-sub-counts
+sub-counts c = search needs
 
 counts-requires : tie.Need-counts-requires
 counts-requires c κs = search needs
@@ -66,6 +66,6 @@ polling-spec =
     refused-requires-4
     returns-4
     cast-m
-    sub-n
+    sub-counts
     counts-requires
     returns-5)

@@ -1,5 +1,5 @@
 -- `plans_task::wanted` meets its contract: by the number given.
--- It rests on the contracts of what it calls, and on the laws of tests.
+-- It rests on the laws of tests.
 use borrow.Author.Tests.{eq-eqb, ne-eqb}
 use Rattle.model.specs.Service.{wanted}
 use Rattle.plans_task.proofs.turns.wanted.Statement.{statement}

@@ -5,8 +5,8 @@ use borrow.Author.Needs.{needs}
 use borrow.Author.Tests.{eq-eqb, ne-eqb, not-true, not-false}
 use Rattle.model.specs.Service.{semDelete}
 use Rattle.checks.proofs.Laws.{fails, holds, within-top}
-use Rattle.plans_semaphore.proofs.sem_delete.Statement.{statement}
-use Rattle.plans_semaphore.proofs.sem_delete.Tie as tie
+use Rattle.plans_semaphore.proofs.delete.sem_delete.Statement.{statement}
+use Rattle.plans_semaphore.proofs.delete.sem_delete.Tie as tie
 
 is-semaphore-requires : tie.Need-is-semaphore-requires
 is-semaphore-requires c κs = search needs
