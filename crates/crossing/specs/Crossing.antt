@@ -2,8 +2,8 @@
 -- A wants list has the row that each task wants, 0 for none. Rests on the rows of model.
 use mathlib.Core.Bool.{Bool, true, false, cond, _&&_}
 use mathlib.Core.List.{List, [], _∷_}
-use Prim.Native.Nat.{ℕ, zero, suc}
-use lib.Dec.{eqb}
+use Prim.Native.Nat.{ℕ, zero, suc, _+_, _-_}
+use lib.Dec.{eqb, ltb}
 use lib.ListN.{getD, set, take, drop}
 use Rattle.model.specs.Test.{zeros, isListed}
 
@@ -21,3 +21,7 @@ crossed l (x ∷ q) w = let rest = crossed l q (set w x 0) in cond (eqb x 0) w (
 unfoldable pub crossesAll : ℕ → ℕ → List ℕ → List ℕ → Bool
 crossesAll zero l ls w = zeros w
 crossesAll (suc n) l ls w = crosses l (take 24 ls) w && crossesAll n (suc l) (drop 24 ls) (crossed l (take 24 ls) w)
+
+-- where the row that begins at a place ends, in a table of n places
+unfoldable pub rowEnd : ℕ → ℕ → ℕ
+rowEnd at n = cond (ltb (n - at) 24) n (at + 24)

@@ -1,0 +1,98 @@
+-- Laws by which the loops of crossing off go on, from one place to the next and from one row to the next.
+-- Rests on specs/Crossing.
+use mathlib.Core.Path.{_≡_, refl, sym, ap, _∙_}
+use mathlib.Core.Bool.{Bool, true, false, cond, _&&_, not, and-false}
+use mathlib.Core.List.{List, [], _∷_}
+use Prim.Native.Nat.{ℕ, zero, suc, _+_, _-_, _≤_, _<_}
+use native.Mathlib.Decide.{ℕ-discrete, decLt}
+use native.Mathlib.Numerals.{add-one}
+use native.Mathlib.Omega.{arith}
+use lib.Dec.{eqb, ltb}
+use lib.ListN.{length, getD, set, take, drop, length-drop, drop-of-length-le, List·getD-eq-default}
+use lib.Seq.{drop-cons, drop-drop, take-all}
+use borrow.Author.Tests.{eq-eqb, ne-eqb, lt-ltb, le-ltb}
+use Rattle.model.specs.Test.{zeros, isListed}
+use Rattle.crossing.specs.Crossing.{crosses, crossed, crossesAll, rowEnd}
+
+-- ---- zeros
+module _ (q : List ℕ) (i : ℕ) where
+  pub zeros-on : i < length q → getD q i 0 ≡ 0 → zeros (drop i q) ≡ zeros (drop (i + 1) q)
+  unfolding zeros
+  zeros-on h e = rw (add-one, drop-cons q i 0 h, eq-eqb _ _ e)
+
+  pub zeros-fails : i < length q → (getD q i 0 ≡ 0 → ⊥) → zeros (drop i q) ≡ false
+  unfolding zeros
+  zeros-fails h n = rw (drop-cons q i 0 h, ne-eqb _ _ n)
+
+  pub zeros-end : length q ≤ i → zeros (drop i q) ≡ true
+  unfolding zeros
+  zeros-end h = rw (drop-of-length-le q h)
+
+-- ---- one row. What is said of `crosses` and of `crossed` from place i on
+module _ (l : ℕ) (w : List ℕ) where
+  -- a number past the wants list wants nothing
+  pub far-listed : (t : ℕ) → length w ≤ t → isListed l (getD w t 0) ≡ false
+  far-listed t h = rw (List·getD-eq-default w 0 h) (elim (ℕ-discrete l 0) [
+      yes e ↦ rw (eq-eqb l 0 e)
+    | no n ↦ rw (ne-eqb 0 l (λ k. n (sym k))) (and-false (not (eqb l 0))) ])
+
+  module _ (q : List ℕ) (i : ℕ) where
+    abbrev t : ℕ
+    t = getD q i 0
+
+    pub crosses-done : length q ≤ i → (crosses l (drop i q) w ≡ true) × (crossed l (drop i q) w ≡ w)
+    unfolding crosses crossed
+    crosses-done h = (rw (drop-of-length-le q h), rw (drop-of-length-le q h))
+
+    pub crosses-ends : i < length q → t ≡ 0 → (crosses l (drop i q) w ≡ zeros (drop (i + 1) q)) × (crossed l (drop i q) w ≡ w)
+    unfolding crosses crossed
+    crosses-ends h e = (rw (add-one, drop-cons q i 0 h, eq-eqb t 0 e), rw (drop-cons q i 0 h, eq-eqb t 0 e))
+
+    pub crosses-fails : i < length q → (t ≡ 0 → ⊥) → isListed l (getD w t 0) ≡ false → (crosses l (drop i q) w ≡ false) × (crossed l (drop i q) w ≡ w)
+    unfolding crosses crossed
+    crosses-fails h n e = (rw (drop-cons q i 0 h, ne-eqb t 0 n, e), rw (drop-cons q i 0 h, ne-eqb t 0 n, e))
+
+    pub crosses-on : i < length q → (t ≡ 0 → ⊥) → isListed l (getD w t 0) ≡ true
+        → (crosses l (drop i q) w ≡ crosses l (drop (i + 1) q) (set w t 0)) × (crossed l (drop i q) w ≡ crossed l (drop (i + 1) q) (set w t 0))
+    unfolding crosses crossed
+    crosses-on h n e = (rw (add-one, drop-cons q i 0 h, ne-eqb t 0 n, e), rw (add-one, drop-cons q i 0 h, ne-eqb t 0 n, e))
+
+-- ---- rows
+module _ (ls : List ℕ) (at : ℕ) where
+  -- the row that begins at a place
+  abbrev pub rowAt : List ℕ
+  rowAt = take (rowEnd at (length ls) - at) (drop at ls)
+
+  pub end-high : at ≤ length ls → at ≤ rowEnd at (length ls)
+  unfolding rowEnd
+  end-high h = elim (decLt (length ls - at) 24) [ yes p ↦ rw (lt-ltb _ _ p) h | no p ↦ rw (le-ltb (length ls - at) 24 (omega arith)) (omega arith) ]
+
+  pub end-low : rowEnd at (length ls) ≤ length ls
+  unfolding rowEnd
+  end-low = elim (decLt (length ls - at) 24) [ yes p ↦ rw (lt-ltb _ _ p) (omega arith) | no p ↦ rw (le-ltb (length ls - at) 24 (omega arith)) (omega arith) ]
+
+  row-taken : at ≤ length ls → take 24 (drop at ls) ≡ rowAt
+  unfolding rowEnd
+  row-taken h = elim (decLt (length ls - at) 24) [
+      yes p ↦ rw (lt-ltb _ _ p) (take-all 24 (drop at ls) (rw length-drop (omega arith)) ∙ sym (take-all (length ls - at) (drop at ls) (rw length-drop (omega arith))))
+    | no p ↦
+      let e : at + 24 - at ≡ 24 = omega arith in
+      rw (le-ltb (length ls - at) 24 (omega arith), e) ]
+
+  row-dropped : at ≤ length ls → drop 24 (drop at ls) ≡ drop (rowEnd at (length ls)) ls
+  unfolding rowEnd
+  row-dropped h = elim (decLt (length ls - at) 24) [
+      yes p ↦ rw (lt-ltb _ _ p, drop-drop 24 at ls) (drop-of-length-le ls {i = at + 24} (omega arith) ∙ sym (drop-of-length-le ls {i = length ls} (omega arith)))
+    | no p ↦ rw (le-ltb (length ls - at) 24 (omega arith)) (drop-drop 24 at ls) ]
+
+  -- the row at hand, and then the rows behind it
+  pub row-on : (n l : ℕ) (w : List ℕ) → l < n → at ≤ length ls
+      → crossesAll (n - l) l (drop at ls) w ≡ (crosses l rowAt w && crossesAll (n - (l + 1)) (l + 1) (drop (rowEnd at (length ls)) ls) (crossed l rowAt w))
+  unfolding crossesAll
+  row-on n l w p h =
+      let e : n - l ≡ suc (n - (l + 1)) = omega arith in
+      rw (e, row-taken h, row-dropped h, add-one)
+
+pub rows-done : (n l : ℕ) (ls w : List ℕ) → n ≤ l → crossesAll (n - l) l ls w ≡ zeros w
+unfolding crossesAll
+rows-done n l ls w h = let e : n - l ≡ 0 = omega arith in rw e
