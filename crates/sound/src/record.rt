@@ -1,0 +1,83 @@
+// The tests of one task's record, of a level's slice and charge, and of a semaphore's count.
+// Each function is a definition of model/specs/Test, for every value; it rests on model alone.
+ghost use mathlib.Core.Path.{_≡_};
+ghost use Rattle.model.specs.Plan.{within};
+ghost use Rattle.model.specs.Test.{isBlank, isWaitCode, isResting, isWaitSound, isTaskSound, isRateSound, isCountSound};
+use model::Task;
+
+fn is_within(low: u8, n: u8, top: u8) -> bool
+    ensures { λ r. ⌜ r ≡ within low n top ⌝ }
+{
+    (low <= n) & (n <= top)
+}
+
+pub fn is_blank(x: Task) -> bool
+    ensures { λ r. ⌜ r ≡ isBlank x ⌝ }
+{
+    (x.base == 0) & ((x.priority == 0) & ((x.active == 0) & ((x.suspended == 0) & ((x.wait == 0)
+        & ((x.object == 0) & ((x.wakeups == 0) & ((x.activations == 0) & ((x.code == 0) & (x.remaining == 0)))))))))
+}
+
+fn is_wait_code(v: u8) -> bool
+    ensures { λ r. ⌜ r ≡ isWaitCode v ⌝ }
+{
+    (v == 0) | ((v == 4) | ((v == 10) | (v == 11)))
+}
+
+fn is_resting(x: Task) -> bool
+    ensures { λ r. ⌜ r ≡ isResting x ⌝ }
+{
+    (x.wait == 0) & ((x.suspended == 0) & ((x.wakeups == 0) & ((x.activations == 0)
+        & ((x.code == 0) & (x.priority == x.base)))))
+}
+
+fn is_wait_sound(x: Task) -> bool
+    ensures { λ r. ⌜ r ≡ isWaitSound x ⌝ }
+{
+    let wait = x.wait;
+    let object = x.object;
+    let wakeups = x.wakeups;
+    let code = x.code;
+    let remaining = x.remaining;
+    if wait == 0 {
+        return (object == 0) & (remaining == 0);
+    }
+    if wait == 1 {
+        return (1 <= remaining) & ((code == 0) & ((object == 0) & (wakeups == 0)));
+    }
+    let semaphore = is_within(1, object, 12);
+    (1 <= remaining) & ((code == 0) & ((wait == 2) & semaphore))
+}
+
+pub fn task_sound(x: Task) -> bool
+    ensures { λ r. ⌜ r ≡ isTaskSound x ⌝ }
+{
+    let base = x.base;
+    let priority = x.priority;
+    let active = x.active;
+    let suspended = x.suspended;
+    let wakeups = x.wakeups;
+    let activations = x.activations;
+    let code = x.code;
+    if base == 0 {
+        return is_blank(x);
+    }
+    let first = is_within(1, base, 30);
+    let current = is_within(1, priority, 30);
+    let ended = is_wait_code(code);
+    let resting = is_resting(x);
+    let waits = is_wait_sound(x);
+    first & (current & ((active <= 1) & ((suspended <= 1) & ((wakeups <= 1) & ((activations <= 1) & (ended & (((active != 0) | resting) & waits)))))))
+}
+
+pub fn rate_sound(slice: u16, charge: u16) -> bool
+    ensures { λ r. ⌜ r ≡ isRateSound slice charge ⌝ }
+{
+    (slice <= 1000) & ((charge < slice) | ((slice == 0) & (charge == 0)))
+}
+
+pub fn count_sound(count: u16, maximum: u16, first: u8) -> bool
+    ensures { λ r. ⌜ r ≡ isCountSound count maximum first ⌝ }
+{
+    (count <= maximum) & ((first == 0) | ((count == 0) & (maximum != 0)))
+}
