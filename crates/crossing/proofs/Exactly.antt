@@ -1,20 +1,20 @@
 -- Crossing off is the test of model: a table lists exactly the tasks with their keys, once each.
 -- Rests on Rows.
 use mathlib.Core.Path.{_≡_, refl, sym, ap, _∙_, fun-ext}
-use mathlib.Core.Bool.{Bool, true, false, cond, _&&_, _||_, or-true}
+use mathlib.Core.Bool.{Bool, true, false, _&&_, _||_, or-true}
 use mathlib.Core.List.{List, [], _∷_}
 use mathlib.Core.Logic.{_⊎_, inl, inr, ⊎-elim}
-use Prim.Native.Nat.{ℕ, zero, suc, _+_, _*_, _-_, _≤_, _<_}
+use Prim.Native.Nat.{ℕ, zero, suc, _+_, _*_, _-_, _≤_}
 use native.Mathlib.Decide.{ℕ-discrete, decLt}
 use native.Mathlib.Omega.{arith}
 use lib.Dec.{eqb}
-use lib.ListN.{length, getD, take, drop, length-drop, drop-of-length-le, List·getD-eq-default}
-use lib.Seq.{drop-drop, drop-nil, take-nil}
-use borrow.Author.Tests.{eq-eqb, ne-eqb, eqb-true}
+use lib.ListN.{length, getD, take, drop, length-drop, List·getD-eq-default}
+use lib.Seq.{drop-drop, drop-nil}
+use borrow.Author.Tests.{eq-eqb, eqb-true}
 use Rattle.model.specs.Row.{row}
-use Rattle.model.specs.Test.{below, everyRow, occ, zeros, listsOnly, isListed, isFiled, listsExactly}
+use Rattle.model.specs.Test.{below, everyRow, occ, listsOnly, isFiled, listsExactly}
 use Rattle.crossing.specs.Crossing.{crosses, crossed, crossesAll}
-use Rattle.crossing.proofs.Tests.{both, and-both, same-tests, below-at, below-all, listed-by, listed-as, zeros-at, zeros-all, listsOnly-more, everyRow-more}
+use Rattle.crossing.proofs.Tests.{both, and-both, same-tests, below-at, below-all, listed-by, zeros-at, zeros-all, listsOnly-more, everyRow-more}
 use Rattle.crossing.proofs.Rows.{wanting, Fate, fate, crossed-lists, lists-crossed, crossed-none}
 
 -- each row lists only tasks that want it
@@ -60,22 +60,23 @@ module _ (l : ℕ) (ls w : List ℕ) where
     filed : Filed (suc l) (drop 24 ls) v t → Filed l ls w t
     filed g = ⊎-elim
         (λ k. ⊎-elim
-          (λ z. inl (sym (k .1) ∙ z))
-          (λ z. inr (omega (arith, z .0, k .1), rw (← k .1, row-next ls l (getD v t 0) (z .0)) (z .1)))
-          g)
+        (λ z. inl (sym (k .1) ∙ z))
+        (λ z. inr (omega (arith, z .0, k .1), rw (← k .1, row-next ls l (getD v t 0) (z .0)) (z .1)))
+        g)
         (λ k. inr (omega (arith, k .1), rw (k .1, row-first ls (l - l) (omega arith)) (k .0)))
         f
 
     refiled : Filed l ls w t → Filed (suc l) (drop 24 ls) v t
     refiled g = ⊎-elim
         (λ k. ⊎-elim
-          (λ z. inl (k .1 ∙ z))
-          (λ z. elim (ℕ-discrete (getD w t 0) l) [
-            yes e ↦ absurd (omega (arith, k .0, rw (row-first ls (getD w t 0 - l) (omega arith)) at (z .1)))
+        (λ z. inl (k .1 ∙ z))
+        (λ z. elim (ℕ-discrete (getD w t 0) l) [
+          | yes e ↦ absurd (omega (arith, k .0, rw (row-first ls (getD w t 0 - l) (omega arith)) at (z .1)))
           | no d ↦
-            let p : suc l ≤ getD w t 0 = omega (arith, z .0) in
-            inr (rw (k .1) p, rw (k .1, ← row-next ls l (getD w t 0) p) (z .1)) ])
-          g)
+              let p : suc l ≤ getD w t 0 = omega (arith, z .0) in
+              inr (rw (k .1) p, rw (k .1, ← row-next ls l (getD w t 0) p) (z .1))
+        ])
+        g)
         (λ k. inl (k .2))
         f
 
@@ -88,11 +89,12 @@ all-fate (suc n) l ls w h =
     let v = crossed l q w in
     let b = both (crosses l q w) (crossesAll n (suc l) (drop 24 ls) v) h in
     let r = all-fate n (suc l) (drop 24 ls) v (b .1) in
-    let f = fate l q w (b .0) in
-    (and-both (listsOnly (wanting w l) q) (everyRow n (suc l) (λ m q. listsOnly (wanting w m) q) (drop 24 ls)) (crossed-lists l q w (b .0))
-    (everyRow-more (λ m q. listsOnly (wanting v m) q) (λ m q. listsOnly (wanting w m) q) n (suc l) (drop 24 ls)
-    (λ m p s. listsOnly-more (wanting v m) (wanting w m) p (λ t p o. wanted l ls w t (f t p) m)) (r .0)),
-    λ t p. filed l ls w t (f t p) (r .1 t p))
+    let f = fate l q w (b .0) in (
+      and-both (listsOnly (wanting w l) q) (everyRow n (suc l) (λ m q. listsOnly (wanting w m) q) (drop 24 ls)) (crossed-lists l q w (b .0))
+          (everyRow-more (λ m q. listsOnly (wanting v m) q) (λ m q. listsOnly (wanting w m) q) n (suc l) (drop 24 ls)
+          (λ m p s. listsOnly-more (wanting v m) (wanting w m) p (λ t p o. wanted l ls w t (f t p) m)) (r .0)),
+      λ t p. filed l ls w t (f t p) (r .1 t p),
+    )
 
 -- ---- what lists exactly is crossed off
 -- where there is no row, nobody wants one
@@ -160,15 +162,19 @@ module _ (n : ℕ) (ls w : List ℕ) (wide : length w ≤ 25) (origin : getD w 0
     where
       listed : Bool
       listed = everyRow n 0 (λ l q. listsOnly (wanting w l) q) ls
+
       filed : Bool
       filed = below 25 (λ t. isFiled ls (λ u. getD w u 0) t)
+
       from1 : ((t : ℕ) → 1 ≤ t → Filed 0 ls w t) → (t : ℕ) → Filed 0 ls w t
       from1 f zero = inl origin
       from1 f (suc t) = f (suc t) (omega arith)
+
       from25 : below 25 (λ t. isFiled ls (λ u. getD w u 0) t) ≡ true → (t : ℕ) → Filed 0 ls w t
       from25 h t = elim (decLt t 25) [
-          yes p ↦ filed-by ls w t (below-at (λ t. isFiled ls (λ u. getD w u 0) t) 25 t h p)
-        | no p ↦ inl (List·getD-eq-default w 0 (omega arith)) ]
+        | yes p ↦ filed-by ls w t (below-at (λ t. isFiled ls (λ u. getD w u 0) t) 25 t h p)
+        | no p ↦ inl (List·getD-eq-default w 0 (omega arith))
+      ]
 
   -- for any name of what is wanted
   pub exactly : (key : ℕ → ℕ) → ((t : ℕ) → key t ≡ getD w t 0) → crossesAll n 0 ls w ≡ listsExactly ls n key

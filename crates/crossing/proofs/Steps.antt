@@ -1,13 +1,13 @@
 -- Laws by which the loops of crossing off go on, from one place to the next and from one row to the next.
 -- Rests on specs/Crossing.
-use mathlib.Core.Path.{_≡_, refl, sym, ap, _∙_}
-use mathlib.Core.Bool.{Bool, true, false, cond, _&&_, not, and-false}
-use mathlib.Core.List.{List, [], _∷_}
-use Prim.Native.Nat.{ℕ, zero, suc, _+_, _-_, _≤_, _<_}
+use mathlib.Core.Path.{_≡_, sym, _∙_}
+use mathlib.Core.Bool.{true, false, _&&_, not, and-false}
+use mathlib.Core.List.{List}
+use Prim.Native.Nat.{ℕ, suc, _+_, _-_, _≤_, _<_}
 use native.Mathlib.Decide.{ℕ-discrete, decLt}
 use native.Mathlib.Numerals.{add-one}
 use native.Mathlib.Omega.{arith}
-use lib.Dec.{eqb, ltb}
+use lib.Dec.{eqb}
 use lib.ListN.{length, getD, set, take, drop, length-drop, drop-of-length-le, List·getD-eq-default}
 use lib.Seq.{drop-cons, drop-drop, take-all}
 use borrow.Author.Tests.{eq-eqb, ne-eqb, lt-ltb, le-ltb}
@@ -33,8 +33,9 @@ module _ (l : ℕ) (w : List ℕ) where
   -- a number past the wants list wants nothing
   pub far-listed : (t : ℕ) → length w ≤ t → isListed l (getD w t 0) ≡ false
   far-listed t h = rw (List·getD-eq-default w 0 h) (elim (ℕ-discrete l 0) [
-      yes e ↦ rw (eq-eqb l 0 e)
-    | no n ↦ rw (ne-eqb 0 l (λ k. n (sym k))) (and-false (not (eqb l 0))) ])
+    | yes e ↦ rw (eq-eqb l 0 e)
+    | no n ↦ rw (ne-eqb 0 l (λ k. n (sym k))) (and-false (not (eqb l 0)))
+  ])
 
   module _ (q : List ℕ) (i : ℕ) where
     abbrev t : ℕ
@@ -74,16 +75,18 @@ module _ (ls : List ℕ) (at : ℕ) where
   row-taken : at ≤ length ls → take 24 (drop at ls) ≡ rowAt
   unfolding rowEnd
   row-taken h = elim (decLt (length ls - at) 24) [
-      yes p ↦ rw (lt-ltb _ _ p) (take-all 24 (drop at ls) (rw length-drop (omega arith)) ∙ sym (take-all (length ls - at) (drop at ls) (rw length-drop (omega arith))))
+    | yes p ↦ rw (lt-ltb _ _ p) (take-all 24 (drop at ls) (rw length-drop (omega arith)) ∙ sym (take-all (length ls - at) (drop at ls) (rw length-drop (omega arith))))
     | no p ↦
-      let e : at + 24 - at ≡ 24 = omega arith in
-      rw (le-ltb (length ls - at) 24 (omega arith), e) ]
+        let e : at + 24 - at ≡ 24 = omega arith in
+        rw (le-ltb (length ls - at) 24 (omega arith), e)
+  ]
 
   row-dropped : at ≤ length ls → drop 24 (drop at ls) ≡ drop (rowEnd at (length ls)) ls
   unfolding rowEnd
   row-dropped h = elim (decLt (length ls - at) 24) [
-      yes p ↦ rw (lt-ltb _ _ p, drop-drop 24 at ls) (drop-of-length-le ls {i = at + 24} (omega arith) ∙ sym (drop-of-length-le ls {i = length ls} (omega arith)))
-    | no p ↦ rw (le-ltb (length ls - at) 24 (omega arith)) (drop-drop 24 at ls) ]
+    | yes p ↦ rw (lt-ltb _ _ p, drop-drop 24 at ls) (drop-of-length-le ls {i = at + 24} (omega arith) ∙ sym (drop-of-length-le ls {i = length ls} (omega arith)))
+    | no p ↦ rw (le-ltb (length ls - at) 24 (omega arith)) (drop-drop 24 at ls)
+  ]
 
   -- the row at hand, and then the rows behind it
   pub row-on : (n l : ℕ) (w : List ℕ) → l < n → at ≤ length ls

@@ -1,16 +1,15 @@
 -- What the tests of model say as they hold, and that they hold of more where they hold of less.
 -- Rests on model/specs/Test alone.
-use mathlib.Core.Path.{_≡_, refl, sym, ap, _∙_}
-use mathlib.Core.Bool.{Bool, true, false, cond, not, _&&_, _||_, false≢true}
+use mathlib.Core.Path.{_≡_, refl, sym}
+use mathlib.Core.Bool.{Bool, true, false, not, _&&_, false≢true}
 use mathlib.Core.List.{List, [], _∷_}
-use Prim.Native.Nat.{ℕ, zero, suc, _+_, _≤_, _<_}
+use Prim.Native.Nat.{ℕ, zero, suc, _≤_, _<_}
 use native.Mathlib.Decide.{ℕ-discrete}
 use native.Mathlib.Omega.{arith}
 use lib.Dec.{eqb}
-use lib.ListN.{length, getD, set, take, drop}
-use lib.Seq.{getD-set-other}
+use lib.ListN.{getD, set, take, drop}
 use borrow.Author.Tests.{eq-eqb, ne-eqb, eqb-true}
-use Rattle.model.specs.Test.{one, below, everyRow, occ, zeros, listsOnly, isListed}
+use Rattle.model.specs.Test.{below, everyRow, occ, zeros, listsOnly, isListed}
 
 -- ---- tests
 pub both : (a b : Bool) → (a && b) ≡ true → (a ≡ true) × (b ≡ true)
@@ -30,8 +29,9 @@ module _ (f : ℕ → Bool) where
   unfolding below
   below-at zero i h p = absurd (omega arith)
   below-at (suc n) i h p = elim (ℕ-discrete i n) [
-      yes e ↦ rw e (both (f n) (below n f) h .0)
-    | no d ↦ below-at n i (both (f n) (below n f) h .1) (omega arith) ]
+    | yes e ↦ rw e (both (f n) (below n f) h .0)
+    | no d ↦ below-at n i (both (f n) (below n f) h .1) (omega arith)
+  ]
 
   pub below-all : (n : ℕ) → ((i : ℕ) → i < n → f i ≡ true) → below n f ≡ true
   unfolding below
@@ -90,11 +90,12 @@ pub listsOnly-more : (f g : ℕ → Bool) (q : List ℕ) → ((t : ℕ) → 1 �
 unfolding listsOnly
 listsOnly-more f g [] k h = refl
 listsOnly-more f g (x ∷ q) k h = elim (ℕ-discrete x 0) [
-      yes e ↦ rw (eq-eqb x 0 e) (rw (eq-eqb x 0 e) at h)
-    | no n ↦
+  | yes e ↦ rw (eq-eqb x 0 e) (rw (eq-eqb x 0 e) at h)
+  | no n ↦
       let b = both (f x) (listsOnly f q) (rw (ne-eqb x 0 n) at h) in
       rw (ne-eqb x 0 n) (and-both (g x) (listsOnly g q) (k x (omega arith) (omega (arith, occ-here x x q refl)) (b .0))
-      (listsOnly-more f g q (λ t p o. k t p (omega (arith, occ-tail t x q))) (b .1))) ]
+      (listsOnly-more f g q (λ t p o. k t p (omega (arith, occ-tail t x q))) (b .1)))
+]
 
 pub everyRow-more : (f g : ℕ → List ℕ → Bool) (n l : ℕ) (ls : List ℕ) → ((m : ℕ) (q : List ℕ) → l ≤ m → f m q ≡ true → g m q ≡ true)
     → everyRow n l f ls ≡ true → everyRow n l g ls ≡ true

@@ -1,6 +1,6 @@
 -- Crossing off: each task that stands in a row must want that row, and from then on wants nothing. At the end nobody wants a row.
 -- A wants list has the row that each task wants, 0 for none. Rests on the rows of model.
-use mathlib.Core.Bool.{Bool, true, false, cond, _&&_}
+use mathlib.Core.Bool.{Bool, true, cond, _&&_}
 use mathlib.Core.List.{List, [], _∷_}
 use Prim.Native.Nat.{ℕ, zero, suc, _+_, _-_}
 use lib.Dec.{eqb, ltb}

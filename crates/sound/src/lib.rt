@@ -6,7 +6,9 @@ ghost use lib.ListN.{getD};
 ghost use Rattle.model.specs.Row.{firstOf};
 ghost use Rattle.model.specs.Task.{noTask, levelOf, rowOf};
 ghost use Rattle.model.specs.Test.{below, isTaskSound, isRateSound, isCountSound, isOrigin, isSound};
-use model::{Task, State};
+use model::State;
+use model::Task;
+
 pub mod record;
 
 // ---- records, slices and counts

@@ -14,8 +14,15 @@ fn is_within(low: u8, n: u8, top: u8) -> bool
 pub fn is_blank(x: Task) -> bool
     ensures { λ r. ⌜ r ≡ isBlank x ⌝ }
 {
-    (x.base == 0) & ((x.priority == 0) & ((x.active == 0) & ((x.suspended == 0) & ((x.wait == 0)
-        & ((x.object == 0) & ((x.wakeups == 0) & ((x.activations == 0) & ((x.code == 0) & (x.remaining == 0)))))))))
+    (x.base == 0)
+        & ((x.priority == 0)
+            & ((x.active == 0)
+                & ((x.suspended == 0)
+                    & ((x.wait == 0)
+                        & ((x.object == 0)
+                            & ((x.wakeups == 0)
+                                & ((x.activations == 0)
+                                    & ((x.code == 0) & (x.remaining == 0)))))))))
 }
 
 fn is_wait_code(v: u8) -> bool
@@ -27,8 +34,10 @@ fn is_wait_code(v: u8) -> bool
 fn is_resting(x: Task) -> bool
     ensures { λ r. ⌜ r ≡ isResting x ⌝ }
 {
-    (x.wait == 0) & ((x.suspended == 0) & ((x.wakeups == 0) & ((x.activations == 0)
-        & ((x.code == 0) & (x.priority == x.base)))))
+    (x.wait == 0)
+        & ((x.suspended == 0)
+            & ((x.wakeups == 0)
+                & ((x.activations == 0) & ((x.code == 0) & (x.priority == x.base)))))
 }
 
 fn is_wait_sound(x: Task) -> bool
@@ -67,7 +76,12 @@ pub fn task_sound(x: Task) -> bool
     let ended = is_wait_code(code);
     let resting = is_resting(x);
     let waits = is_wait_sound(x);
-    first & (current & ((active <= 1) & ((suspended <= 1) & ((wakeups <= 1) & ((activations <= 1) & (ended & (((active != 0) | resting) & waits)))))))
+    first
+        & (current
+            & ((active <= 1)
+                & ((suspended <= 1)
+                    & ((wakeups <= 1)
+                        & ((activations <= 1) & (ended & (((active != 0) | resting) & waits)))))))
 }
 
 pub fn rate_sound(slice: u16, charge: u16) -> bool

@@ -1,7 +1,7 @@
 -- `crossing::cross` meets its contract. The invariant: what is left of the row crosses off what the whole row does.
 -- Rests on Steps.
 use mathlib.Core.Path.{_≡_, refl, sym, _∙_}
-use Prim.Native.Nat.{_-_, _≤_}
+use Prim.Native.Nat.{_-_}
 use native.Mathlib.Omega.{arith}
 use lib.ListN.{length, drop, getD, length-set}
 use borrow.Author.Needs.{needs}
@@ -10,10 +10,6 @@ use Rattle.crossing.specs.Crossing.{crosses, crossed}
 use Rattle.crossing.proofs.Steps.{far-listed, crosses-done, crosses-ends, crosses-fails, crosses-on}
 use Rattle.crossing.proofs.cross.Statement.{statement}
 use Rattle.crossing.proofs.cross.Tie as tie
-use Rattle.crossing.proofs.cross.Reads as reads
-use Rattle.crossing.proofs.cross.Lts as lts
-use Rattle.crossing.proofs.is_listed.Reads as is-listed-reads
-use Rattle.crossing.proofs.zeros_from.Reads as zeros-from-reads
 
 abbrev Inv-loop : tie.InvT-loop
 Inv-loop q l wants₀ i₀ wants i = (length wants ≡ length wants₀) × (crosses l q wants₀ ≡ crosses l (drop i q) wants) × (crossed l q wants₀ ≡ crossed l (drop i q) wants)
@@ -21,31 +17,24 @@ Inv-loop q l wants₀ i₀ wants i = (length wants ≡ length wants₀) × (cros
 abbrev μ-loop : tie.MeasureT-loop
 μ-loop q l wants₀ i₀ wants i = length q - i
 
--- src/lib.rt:37:5
 loop-holds : tie.Need-loop-holds Inv-loop μ-loop
 loop-holds c = (refl, refl, refl)
 
--- src/lib.rt:38:17
 shared-slice-read-t : tie.Need-shared-slice-read-t Inv-loop μ-loop
 shared-slice-read-t c = search needs
 
--- src/lib.rt:38:17
 cast-t : tie.Need-cast-t Inv-loop μ-loop
 cast-t c = omega (arith, c .shared-slice-known2 .given (c .before .before .loop .i))
 
--- src/lib.rt:40:34
 add-zeros-from : tie.Need-add-zeros-from Inv-loop μ-loop
 add-zeros-from c = omega arith
 
--- src/lib.rt:40:13
 zeros-from-requires : tie.Need-zeros-from-requires Inv-loop μ-loop
 zeros-from-requires c κs = search needs
 
--- src/lib.rt:40:13
 same-length : tie.Need-same-length Inv-loop μ-loop
 same-length c = search needs
 
--- src/lib.rt:40:13
 returns : tie.Need-returns Inv-loop μ-loop
 returns c =
     let l = c .before .before .before .before .loop in
@@ -53,11 +42,9 @@ returns c =
     let s = crosses-ends (a .l) (l .wants) (a .q .now) (l .i) (c .before .before .before .loop-test .taken) (c .before .if1 .taken) in
     (c .zeros-from .ensures ∙ sym (l .inv .1 ∙ s .0), sym (l .inv .2 ∙ s .1))
 
--- src/lib.rt:43:13
 same-length-2 : tie.Need-same-length-2 Inv-loop μ-loop
 same-length-2 c = search needs
 
--- src/lib.rt:43:13
 returns-2 : tie.Need-returns-2 Inv-loop μ-loop
 returns-2 c =
     let l = c .before .before .before .before .loop in
@@ -65,19 +52,15 @@ returns-2 c =
     let s = crosses-fails (a .l) (l .wants) (a .q .now) (l .i) (c .before .before .before .loop-test .taken) (c .before .if1 .left) (far-listed (a .l) (l .wants) (getD (a .q .now) (l .i) 0) (c .if2 .taken)) in
     (sym (l .inv .1 ∙ s .0), sym (l .inv .2 ∙ s .1))
 
--- src/lib.rt:45:20
 slice-read-want : tie.Need-slice-read-want Inv-loop μ-loop
 slice-read-want c = search needs
 
--- src/lib.rt:46:13
 is-listed-requires : tie.Need-is-listed-requires Inv-loop μ-loop
 is-listed-requires c κs = search needs
 
--- src/lib.rt:48:13
 same-length-3 : tie.Need-same-length-3 Inv-loop μ-loop
 same-length-3 c = search needs
 
--- src/lib.rt:48:13
 returns-3 : tie.Need-returns-3 Inv-loop μ-loop
 returns-3 c =
     let l = c .before .before .before .before .before .before .before .loop in
@@ -85,19 +68,15 @@ returns-3 c =
     let s = crosses-fails (a .l) (l .wants) (a .q .now) (l .i) (c .before .before .before .before .before .before .loop-test .taken) (c .before .before .before .before .if1 .left) (sym (c .before .is-listed .ensures) ∙ not-true (c .before .is-listed .result) (c .if3 .taken)) in
     (sym (l .inv .1 ∙ s .0), sym (l .inv .2 ∙ s .1))
 
--- src/lib.rt:50:9
 slice-write-wants : tie.Need-slice-write-wants Inv-loop μ-loop
 slice-write-wants c = search needs
 
--- src/lib.rt:51:9
 add-i : tie.Need-add-i Inv-loop μ-loop
 add-i c = omega arith
 
--- src/lib.rt:37:5
 loop-less : tie.Need-loop-less Inv-loop μ-loop
 loop-less c = omega arith
 
--- src/lib.rt:37:5
 loop-again : tie.Need-loop-again Inv-loop μ-loop
 loop-again c =
     let l = c .before .before .before .before .before .before .before .loop in
@@ -105,11 +84,9 @@ loop-again c =
     let s = crosses-on (a .l) (l .wants) (a .q .now) (l .i) (c .before .before .before .before .before .before .loop-test .taken) (c .before .before .before .before .if1 .left) (sym (c .before .is-listed .ensures) ∙ not-false (c .before .is-listed .result) (c .if3 .left)) in
     (simp length-set (l .inv .0), l .inv .1 ∙ s .0, l .inv .2 ∙ s .1)
 
--- src/lib.rt:33:1
 same-length-4 : tie.Need-same-length-4 Inv-loop μ-loop
 same-length-4 c = search needs
 
--- src/lib.rt:33:1
 returns-4 : tie.Need-returns-4 Inv-loop μ-loop
 returns-4 c =
     let l = c .before .loop in

@@ -1,21 +1,16 @@
 -- `crossing::cross_all` meets its contract. The invariant: the rows that are left cross off what is still wanted where all rows
 -- cross off what was. Rests on Steps.
-use mathlib.Core.Path.{_≡_, refl, sym, ap, _∙_}
+use mathlib.Core.Path.{_≡_, sym, _∙_}
 use Prim.Native.Nat.{_-_, _≤_}
 use native.Mathlib.Omega.{arith}
 use native.Mathlib.Nat.{sub-zero}
 use lib.ListN.{length, drop}
 use borrow.Author.Needs.{needs}
 use borrow.Author.Tests.{not-true, not-false}
-use Rattle.crossing.specs.Crossing.{crosses, crossed, crossesAll, rowEnd}
-use Rattle.crossing.proofs.Steps.{rowAt, end-high, end-low, row-on, rows-done}
+use Rattle.crossing.specs.Crossing.{crossesAll}
+use Rattle.crossing.proofs.Steps.{end-high, end-low, row-on, rows-done}
 use Rattle.crossing.proofs.cross_all.Statement.{statement}
 use Rattle.crossing.proofs.cross_all.Tie as tie
-use Rattle.crossing.proofs.cross_all.Reads as reads
-use Rattle.crossing.proofs.cross_all.Lts as lts
-use Rattle.crossing.proofs.cross.Reads as cross-reads
-use Rattle.crossing.proofs.row_end.Reads as row-end-reads
-use Rattle.crossing.proofs.zeros_from.Reads as zeros-from-reads
 
 abbrev Inv-loop : tie.InvT-loop
 Inv-loop ls n rest₀ at₀ l₀ rest at l = (length rest ≡ 25) × (at ≤ length ls) × (l ≤ n) × (crossesAll n 0 ls rest₀ ≡ crossesAll (n - l) l (drop at ls) rest)
@@ -23,35 +18,27 @@ Inv-loop ls n rest₀ at₀ l₀ rest at l = (length rest ≡ 25) × (at ≤ len
 abbrev μ-loop : tie.MeasureT-loop
 μ-loop ls n rest₀ at₀ l₀ rest at l = n - l
 
--- src/lib.rt:76:5
 loop-holds : tie.Need-loop-holds Inv-loop μ-loop
 loop-holds c = (search needs, omega arith, omega arith, rw sub-zero)
 
--- src/lib.rt:77:13
 row-end-requires : tie.Need-row-end-requires Inv-loop μ-loop
 row-end-requires c κs = search needs
 
--- src/lib.rt:78:29
 sub-cross : tie.Need-sub-cross Inv-loop μ-loop
 sub-cross c = let l = c .before .before .loop in rw (c .row-end .ensures) (end-high (c .before .before .before .before .args .ls .now) (l .at) (l .inv .1))
 
--- src/lib.rt:78:29
 part-cross-start : tie.Need-part-cross-start Inv-loop μ-loop
 part-cross-start c = let l = c .before .before .loop in rw (c .row-end .ensures) (end-high (c .before .before .before .before .args .ls .now) (l .at) (l .inv .1))
 
--- src/lib.rt:78:29
 part-cross-end : tie.Need-part-cross-end Inv-loop μ-loop
 part-cross-end c = rw (c .row-end .ensures) (end-low (c .before .before .before .before .args .ls .now) (c .before .before .loop .at))
 
--- src/lib.rt:78:46
 slice-aggregate-cross : tie.Need-slice-aggregate-cross Inv-loop μ-loop
 slice-aggregate-cross c = search needs
 
--- src/lib.rt:78:13
 cross-requires : tie.Need-cross-requires Inv-loop μ-loop
 cross-requires c κs = search needs
 
--- src/lib.rt:80:13
 returns : tie.Need-returns Inv-loop μ-loop
 returns c =
     let l = c .before .before .before .before .before .before .before .loop in
@@ -61,34 +48,31 @@ returns c =
     let s = row-on (a .ls .now) (l .at) (a .n) (l .l) (l .rest) (c .before .before .before .before .before .before .loop-test .taken) (l .inv .1) in
     sym (l .inv .3 ∙ (rw (← r) at s) ∙ rw (sym (k .ensures .0) ∙ not-true (k .result) (c .if1 .taken)))
 
--- src/lib.rt:83:9
 add-l : tie.Need-add-l Inv-loop μ-loop
 add-l c = omega arith
 
--- src/lib.rt:76:5
 loop-less : tie.Need-loop-less Inv-loop μ-loop
 loop-less c = omega arith
 
--- src/lib.rt:76:5
 loop-again : tie.Need-loop-again Inv-loop μ-loop
 loop-again c =
     let l = c .before .before .before .before .before .before .before .loop in
     let a = c .before .before .before .before .before .before .before .before .before .args in
     let r = c .before .before .before .before .before .row-end .ensures in
     let k = c .before .before .cross in
-    let s = row-on (a .ls .now) (l .at) (a .n) (l .l) (l .rest) (c .before .before .before .before .before .before .loop-test .taken) (l .inv .1) in
-    (k .kept .1 .1 .0 ∙ l .inv .0, rw r (end-low (a .ls .now) (l .at)), omega arith,
-    l .inv .3 ∙ (rw (← r) at s) ∙ rw (sym (k .ensures .0) ∙ not-false (k .result) (c .if1 .left), ← k .ensures .1))
+    let s = row-on (a .ls .now) (l .at) (a .n) (l .l) (l .rest) (c .before .before .before .before .before .before .loop-test .taken) (l .inv .1) in (
+      k .kept .1 .1 .0 ∙ l .inv .0,
+      rw r (end-low (a .ls .now) (l .at)),
+      omega arith,
+      l .inv .3 ∙ (rw (← r) at s) ∙ rw (sym (k .ensures .0) ∙ not-false (k .result) (c .if1 .left), ← k .ensures .1),
+    )
 
--- src/lib.rt:85:16
 slice-aggregate-zeros-from : tie.Need-slice-aggregate-zeros-from Inv-loop μ-loop
 slice-aggregate-zeros-from c = search needs
 
--- src/lib.rt:85:5
 zeros-from-requires : tie.Need-zeros-from-requires Inv-loop μ-loop
 zeros-from-requires c κs = search needs
 
--- src/lib.rt:70:1
 returns-2 : tie.Need-returns-2 Inv-loop μ-loop
 returns-2 c =
     let l = c .before .before .before .loop in

@@ -39,9 +39,12 @@ loop-less : tie.Need-loop-less Inv-loop μ-loop
 loop-less c = omega arith
 
 loop-again : tie.Need-loop-again Inv-loop μ-loop
-loop-again c = let l = c .before .before .before .loop in
-    (l .inv .0, simp length-set (l .inv .1), omega arith,
-    rw (c .level-of .ensures) (fill-on levelOf (c .before .before .before .before .args .t1) (l .wants) (l .t) _ (omega arith) (omega arith) (l .inv .3)))
+loop-again c = let l = c .before .before .before .loop in (
+  l .inv .0,
+  simp length-set (l .inv .1),
+  omega arith,
+  rw (c .level-of .ensures) (fill-on levelOf (c .before .before .before .before .args .t1) (l .wants) (l .t) _ (omega arith) (omega arith) (l .inv .3)),
+)
 
 returns : tie.Need-returns Inv-loop μ-loop
 returns c = let l = c .before .loop in fill-end levelOf (c .before .before .args .t1) (l .wants) (l .t) (omega arith) (omega arith) (l .inv .3)
