@@ -89,12 +89,21 @@ module _ (ls : List ℕ) (at : ℕ) where
   ]
 
   -- the row at hand, and then the rows behind it
-  pub row-on : (n l : ℕ) (w : List ℕ) → l < n → at ≤ length ls
-      → crossesAll (n - l) l (drop at ls) w ≡ (crosses l rowAt w && crossesAll (n - (l + 1)) (l + 1) (drop (rowEnd at (length ls)) ls) (crossed l rowAt w))
-  unfolding crossesAll
-  row-on n l w p h =
-      let e : n - l ≡ suc (n - (l + 1)) = omega arith in
-      rw (e, row-taken h, row-dropped h, add-one)
+  module _ (n l : ℕ) (w : List ℕ) (end : ℕ) (e : end ≡ rowEnd at (length ls)) (p : l < n) (h : at ≤ length ls) where
+    abbrev q : List ℕ
+    q = take (end - at) (drop at ls)
+
+    row-on : crossesAll (n - l) l (drop at ls) w ≡ (crosses l q w && crossesAll (n - (l + 1)) (l + 1) (drop end ls) (crossed l q w))
+    unfolding crossesAll
+    row-on =
+        let k : n - l ≡ suc (n - (l + 1)) = omega arith in
+        rw (e, k, row-taken h, row-dropped h, add-one)
+
+    pub row-fails : crosses l q w ≡ false → crossesAll (n - l) l (drop at ls) w ≡ false
+    row-fails k = row-on ∙ rw k
+
+    pub row-crossed : crosses l q w ≡ true → crossesAll (n - l) l (drop at ls) w ≡ crossesAll (n - (l + 1)) (l + 1) (drop end ls) (crossed l q w)
+    row-crossed k = row-on ∙ rw k
 
 pub rows-done : (n l : ℕ) (ls w : List ℕ) → n ≤ l → crossesAll (n - l) l ls w ≡ zeros w
 unfolding crossesAll

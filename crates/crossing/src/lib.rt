@@ -1,7 +1,6 @@
 // The test of a table of queues by crossing off, which looks at each place once.
 // Each function is a definition of specs/Crossing, for every value; it rests on model alone.
 ghost use mathlib.Core.Path.{_≡_};
-ghost use Prim.Native.Nat.{_≤_};
 ghost use lib.ListN.{drop};
 ghost use Rattle.model.specs.Test.{zeros, isListed};
 ghost use Rattle.crossing.specs.Crossing.{crosses, crossed, crossesAll, rowEnd};

@@ -1,11 +1,11 @@
 -- The test of a whole state, from its parts: a state whose origin is used is not sound, and any other is judged by its tables.
 -- Rests on Tables.
-use mathlib.Core.Path.{_≡_, refl}
-use mathlib.Core.Bool.{Bool, true, false, _&&_, and-false, false≢true}
+use mathlib.Core.Path.{_≡_, refl, sym, _∙_}
+use mathlib.Core.Bool.{Bool, true, false, not, _&&_, and-false, false≢true}
 use mathlib.Core.List.{map}
 use native.Mathlib.Decide.{ℕ-discrete}
 use lib.ListN.{length}
-use borrow.Author.Tests.{eq-eqb, ne-eqb}
+use borrow.Author.Tests.{eq-eqb, ne-eqb, not-true, not-false}
 use Rattle.model.specs.declared.Task.{Task}
 use Rattle.model.specs.declared.State.{State}
 use Rattle.model.specs.Row.{firstOf}
@@ -41,34 +41,44 @@ unfolding rowOf
 none-row = refl
 
 -- ---- the whole test
-module _ (s : State) where
-  pub unsound-origin : isOrigin s ≡ false → isSound s ≡ false
-  unfolding isSound
-  unsound-origin e = rw e (and-false (isSized s))
+-- every table has its places
+pub record Sized (s : State) : Type 0 where
+  pub tasks# : length (s .tasks) ≡ 25
+  pub levels# : length (s .levels) ≡ 744
+  pub waits# : length (s .waits) ≡ 312
+  pub slices# : length (s .slices) ≡ 31
+  pub charges# : length (s .charges) ≡ 31
+  pub counts# : length (s .counts) ≡ 13
+  pub maxima# : length (s .maxima) ≡ 13
 
-  -- what is left of the test where the origin is unused
-  abbrev pub tested : Bool
-  tested =
-      below 25 (λ t. isTaskSound (task s t))
-      && (below 31 (λ l. isRateSound (slice s l) (charge s l))
-      && (below 13 (λ m. isCountSound (count s m) (maximum s m) (firstOf (s .waits) m))
-      && (crossesAll 31 0 (s .levels) (map levelOf (s .tasks))
-      && crossesAll 13 0 (s .waits) (map rowOf (s .tasks)))))
+-- what is left of the test where the origin is unused
+abbrev pub tested : State → Bool
+tested s =
+    below 25 (λ t. isTaskSound (task s t))
+    && (below 31 (λ l. isRateSound (slice s l) (charge s l))
+    && (below 13 (λ m. isCountSound (count s m) (maximum s m) (firstOf (s .waits) m))
+    && (crossesAll 31 0 (s .levels) (map levelOf (s .tasks))
+    && crossesAll 13 0 (s .waits) (map rowOf (s .tasks)))))
 
-  pub sound-tested : isOrigin s ≡ true → length (s .tasks) ≡ 25 → length (s .levels) ≡ 744 → length (s .waits) ≡ 312 → length (s .slices) ≡ 31
-      → length (s .charges) ≡ 31 → length (s .counts) ≡ 13 → length (s .maxima) ≡ 13 → isSound s ≡ tested
+module _ (s : State) (origin : Bool) (same : origin ≡ isOrigin s) where
+  pub unsound-origin : not origin ≡ true → isSound s ≡ false
   unfolding isSound
-  sound-tested o e₁ e₂ e₃ e₄ e₅ e₆ e₇ =
+  unsound-origin h = rw (← same, not-true origin h) (and-false (isSized s))
+
+  pub sound-tested : Sized s → not origin ≡ false → isSound s ≡ tested s
+  unfolding isSound
+  sound-tested z h =
+      let o = sym same ∙ not-false origin h in
       let b = both (isBlank (task s 0)) _ o .0 in
       rw (
-        ← wanted-exactly levelOf 31 (s .levels) (s .tasks) e₁ e₂ none-level (blank-level (task s 0) b),
-        ← wanted-exactly rowOf 13 (s .waits) (s .tasks) e₁ e₃ none-row (blank-row (task s 0) b),
+        ← wanted-exactly levelOf 31 (s .levels) (s .tasks) (z .tasks#) (z .levels#) none-level (blank-level (task s 0) b),
+        ← wanted-exactly rowOf 13 (s .waits) (s .tasks) (z .tasks#) (z .waits#) none-row (blank-row (task s 0) b),
         o,
-        e₁,
-        e₂,
-        e₃,
-        e₄,
-        e₅,
-        e₆,
-        e₇,
+        z .tasks#,
+        z .levels#,
+        z .waits#,
+        z .slices#,
+        z .charges#,
+        z .counts#,
+        z .maxima#,
       )

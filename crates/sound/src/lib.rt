@@ -5,7 +5,7 @@ ghost use mathlib.Core.List.{map};
 ghost use lib.ListN.{getD};
 ghost use Rattle.model.specs.Row.{firstOf};
 ghost use Rattle.model.specs.Task.{noTask, levelOf, rowOf};
-ghost use Rattle.model.specs.Test.{below, isTaskSound, isRateSound, isCountSound, isOrigin, isSound};
+ghost use Rattle.model.specs.Test.{below, isTaskSound, isRateSound, isCountSound, isSound};
 use model::State;
 use model::Task;
 
@@ -84,25 +84,9 @@ fn rows_wanted(tasks: [Task; 25]) -> [u8; 25]
 }
 
 // ---- the state
-fn is_origin(s: State) -> bool
-    ensures { λ r. ⌜ r ≡ isOrigin s ⌝ }
-{
-    let x = s.tasks[0];
-    let slice = s.slices[0];
-    let charge = s.charges[0];
-    let count = s.counts[0];
-    let maximum = s.maxima[0];
-    let blank = record::is_blank(x);
-    blank & ((slice == 0) & ((charge == 0) & ((count == 0) & (maximum == 0))))
-}
-
 pub fn is_sound(s: State) -> bool
     ensures { λ r. ⌜ r ≡ isSound s ⌝ }
 {
-    let origin = is_origin(s);
-    if !origin {
-        return false;
-    }
     let tasks = s.tasks;
     let levels = s.levels;
     let waits = s.waits;
@@ -110,6 +94,11 @@ pub fn is_sound(s: State) -> bool
     let charges = s.charges;
     let counts = s.counts;
     let maxima = s.maxima;
+    let x = tasks[0];
+    let origin = record::is_origin(x, slices[0], charges[0], counts[0], maxima[0]);
+    if !origin {
+        return false;
+    }
     let records = tasks_sound(tasks);
     let rates = rates_sound(slices, charges);
     let numbers = counts_sound(counts, maxima, waits);
@@ -117,5 +106,5 @@ pub fn is_sound(s: State) -> bool
     let runnable = crossing::cross_all(&levels, 31, levels_want);
     let rows_want = rows_wanted(tasks);
     let waiting = crossing::cross_all(&waits, 13, rows_want);
-    records & (rates & (numbers & (runnable & waiting)))
+    records & rates & numbers & runnable & waiting
 }

@@ -1,6 +1,8 @@
-// The tests of one task's record, of a level's slice and charge, and of a semaphore's count.
+// The tests of one task's record, of a level's slice and charge, of a semaphore's count, and of what stands at place 0.
 // Each function is a definition of model/specs/Test, for every value; it rests on model alone.
 ghost use mathlib.Core.Path.{_≡_};
+ghost use mathlib.Core.Bool.{_&&_};
+ghost use lib.Dec.{eqb};
 ghost use Rattle.model.specs.Plan.{within};
 ghost use Rattle.model.specs.Test.{isBlank, isWaitCode, isResting, isWaitSound, isTaskSound, isRateSound, isCountSound};
 use model::Task;
@@ -11,18 +13,19 @@ fn is_within(low: u8, n: u8, top: u8) -> bool
     (low <= n) & (n <= top)
 }
 
-pub fn is_blank(x: Task) -> bool
+fn is_blank(x: Task) -> bool
     ensures { λ r. ⌜ r ≡ isBlank x ⌝ }
 {
     (x.base == 0)
-        & ((x.priority == 0)
-            & ((x.active == 0)
-                & ((x.suspended == 0)
-                    & ((x.wait == 0)
-                        & ((x.object == 0)
-                            & ((x.wakeups == 0)
-                                & ((x.activations == 0)
-                                    & ((x.code == 0) & (x.remaining == 0)))))))))
+        & (x.priority == 0)
+        & (x.active == 0)
+        & (x.suspended == 0)
+        & (x.wait == 0)
+        & (x.object == 0)
+        & (x.wakeups == 0)
+        & (x.activations == 0)
+        & (x.code == 0)
+        & (x.remaining == 0)
 }
 
 fn is_wait_code(v: u8) -> bool
@@ -35,9 +38,11 @@ fn is_resting(x: Task) -> bool
     ensures { λ r. ⌜ r ≡ isResting x ⌝ }
 {
     (x.wait == 0)
-        & ((x.suspended == 0)
-            & ((x.wakeups == 0)
-                & ((x.activations == 0) & ((x.code == 0) & (x.priority == x.base)))))
+        & (x.suspended == 0)
+        & (x.wakeups == 0)
+        & (x.activations == 0)
+        & (x.code == 0)
+        & (x.priority == x.base)
 }
 
 fn is_wait_sound(x: Task) -> bool
@@ -52,10 +57,10 @@ fn is_wait_sound(x: Task) -> bool
         return (object == 0) & (remaining == 0);
     }
     if wait == 1 {
-        return (1 <= remaining) & ((code == 0) & ((object == 0) & (wakeups == 0)));
+        return (1 <= remaining) & (code == 0) & (object == 0) & (wakeups == 0);
     }
-    let semaphore = is_within(1, object, 12);
-    (1 <= remaining) & ((code == 0) & ((wait == 2) & semaphore))
+    let object_fits = is_within(1, object, 12);
+    (1 <= remaining) & (code == 0) & (wait == 2) & object_fits
 }
 
 pub fn task_sound(x: Task) -> bool
@@ -71,17 +76,20 @@ pub fn task_sound(x: Task) -> bool
     if base == 0 {
         return is_blank(x);
     }
-    let first = is_within(1, base, 30);
-    let current = is_within(1, priority, 30);
-    let ended = is_wait_code(code);
+    let base_fits = is_within(1, base, 30);
+    let priority_fits = is_within(1, priority, 30);
+    let code_fits = is_wait_code(code);
     let resting = is_resting(x);
-    let waits = is_wait_sound(x);
-    first
-        & (current
-            & ((active <= 1)
-                & ((suspended <= 1)
-                    & ((wakeups <= 1)
-                        & ((activations <= 1) & (ended & (((active != 0) | resting) & waits)))))))
+    let wait_sound = is_wait_sound(x);
+    base_fits
+        & priority_fits
+        & (active <= 1)
+        & (suspended <= 1)
+        & (wakeups <= 1)
+        & (activations <= 1)
+        & code_fits
+        & ((active != 0) | resting)
+        & wait_sound
 }
 
 pub fn rate_sound(slice: u16, charge: u16) -> bool
@@ -94,4 +102,12 @@ pub fn count_sound(count: u16, maximum: u16, first: u8) -> bool
     ensures { λ r. ⌜ r ≡ isCountSound count maximum first ⌝ }
 {
     (count <= maximum) & ((first == 0) | ((count == 0) & (maximum != 0)))
+}
+
+// Place 0 of every table is unused.
+pub fn is_origin(x: Task, slice: u16, charge: u16, count: u16, maximum: u16) -> bool
+    ensures { λ r. ⌜ r ≡ (isBlank x && (eqb slice 0 && (eqb charge 0 && (eqb count 0 && eqb maximum 0)))) ⌝ }
+{
+    let blank = is_blank(x);
+    blank & (slice == 0) & (charge == 0) & (count == 0) & (maximum == 0)
 }

@@ -8,7 +8,7 @@ use lib.ListN.{length, drop}
 use borrow.Author.Needs.{needs}
 use borrow.Author.Tests.{not-true, not-false}
 use Rattle.crossing.specs.Crossing.{crossesAll}
-use Rattle.crossing.proofs.Steps.{end-high, end-low, row-on, rows-done}
+use Rattle.crossing.proofs.Steps.{end-high, end-low, row-fails, row-crossed, rows-done}
 use Rattle.crossing.proofs.cross_all.Statement.{statement}
 use Rattle.crossing.proofs.cross_all.Tie as tie
 
@@ -28,7 +28,7 @@ sub-cross : tie.Need-sub-cross Inv-loop μ-loop
 sub-cross c = let l = c .before .before .loop in rw (c .row-end .ensures) (end-high (c .before .before .before .before .args .ls .now) (l .at) (l .inv .1))
 
 part-cross-start : tie.Need-part-cross-start Inv-loop μ-loop
-part-cross-start c = let l = c .before .before .loop in rw (c .row-end .ensures) (end-high (c .before .before .before .before .args .ls .now) (l .at) (l .inv .1))
+part-cross-start c = sub-cross c
 
 part-cross-end : tie.Need-part-cross-end Inv-loop μ-loop
 part-cross-end c = rw (c .row-end .ensures) (end-low (c .before .before .before .before .args .ls .now) (c .before .before .loop .at))
@@ -43,10 +43,8 @@ returns : tie.Need-returns Inv-loop μ-loop
 returns c =
     let l = c .before .before .before .before .before .before .before .loop in
     let a = c .before .before .before .before .before .before .before .before .before .args in
-    let r = c .before .before .before .before .before .row-end .ensures in
     let k = c .before .before .cross in
-    let s = row-on (a .ls .now) (l .at) (a .n) (l .l) (l .rest) (c .before .before .before .before .before .before .loop-test .taken) (l .inv .1) in
-    sym (l .inv .3 ∙ (rw (← r) at s) ∙ rw (sym (k .ensures .0) ∙ not-true (k .result) (c .if1 .taken)))
+    sym (l .inv .3 ∙ row-fails (a .ls .now) (l .at) (a .n) (l .l) (l .rest) _ (c .before .before .before .before .before .row-end .ensures) (c .before .before .before .before .before .before .loop-test .taken) (l .inv .1) (sym (k .ensures .0) ∙ not-true (k .result) (c .if1 .taken)))
 
 add-l : tie.Need-add-l Inv-loop μ-loop
 add-l c = omega arith
@@ -58,13 +56,11 @@ loop-again : tie.Need-loop-again Inv-loop μ-loop
 loop-again c =
     let l = c .before .before .before .before .before .before .before .loop in
     let a = c .before .before .before .before .before .before .before .before .before .args in
-    let r = c .before .before .before .before .before .row-end .ensures in
-    let k = c .before .before .cross in
-    let s = row-on (a .ls .now) (l .at) (a .n) (l .l) (l .rest) (c .before .before .before .before .before .before .loop-test .taken) (l .inv .1) in (
+    let k = c .before .before .cross in (
       k .kept .1 .1 .0 ∙ l .inv .0,
-      rw r (end-low (a .ls .now) (l .at)),
+      rw (c .before .before .before .before .before .row-end .ensures) (end-low (a .ls .now) (l .at)),
       omega arith,
-      l .inv .3 ∙ (rw (← r) at s) ∙ rw (sym (k .ensures .0) ∙ not-false (k .result) (c .if1 .left), ← k .ensures .1),
+      rw (k .ensures .1) (l .inv .3 ∙ row-crossed (a .ls .now) (l .at) (a .n) (l .l) (l .rest) _ (c .before .before .before .before .before .row-end .ensures) (c .before .before .before .before .before .before .loop-test .taken) (l .inv .1) (sym (k .ensures .0) ∙ not-false (k .result) (c .if1 .left))),
     )
 
 slice-aggregate-zeros-from : tie.Need-slice-aggregate-zeros-from Inv-loop μ-loop

@@ -1,13 +1,38 @@
 -- `sound::is_sound` meets its contract: the origin first, and then the tables, part by part.
 -- Rests on Whole.
-use mathlib.Core.Path.{_≡_, sym, _∙_}
-use lib.ListN.{length}
-use borrow.Author.Tests.{not-true, not-false}
+use mathlib.Core.Path.{sym}
+use mathlib.Core.Bool.{and-assoc}
 use Rattle.sound.proofs.Tables.{len-of}
-use Rattle.sound.proofs.Whole.{unsound-origin, sound-tested}
+use Rattle.sound.proofs.Whole.{Sized, unsound-origin, sound-tested}
 use borrow.Author.Needs.{needs}
 use Rattle.sound.proofs.is_sound.Statement.{statement}
 use Rattle.sound.proofs.is_sound.Tie as tie
+
+sized : (c : tie.Start) → Sized (c .args .s)
+sized c = record {
+  tasks# = search (len-of, needs);
+  levels# = search needs;
+  waits# = search needs;
+  slices# = search needs;
+  charges# = search needs;
+  counts# = search needs;
+  maxima# = search needs;
+}
+
+array-copy-out-x : tie.Need-array-copy-out-x
+array-copy-out-x c = search needs
+
+array-read-is-origin : tie.Need-array-read-is-origin
+array-read-is-origin c = search needs
+
+array-read-is-origin-2 : tie.Need-array-read-is-origin-2
+array-read-is-origin-2 c = search needs
+
+array-read-is-origin-3 : tie.Need-array-read-is-origin-3
+array-read-is-origin-3 c = search needs
+
+array-read-is-origin-4 : tie.Need-array-read-is-origin-4
+array-read-is-origin-4 c = search needs
 
 is-origin-requires : tie.Need-is-origin-requires
 is-origin-requires c κs = search needs
@@ -15,7 +40,7 @@ is-origin-requires c κs = search needs
 returns : tie.Need-returns
 returns c =
     let o = c .before .is-origin in
-    sym (unsound-origin (c .before .before .args .s) (sym (o .ensures) ∙ not-true (o .result) (c .if1 .taken)))
+    sym (unsound-origin (c .before .before .before .before .before .before .before .before .before .before .args .s) (o .result) (o .ensures) (c .if1 .taken))
 
 tasks-sound-requires : tie.Need-tasks-sound-requires
 tasks-sound-requires c κs = search needs
@@ -46,16 +71,9 @@ cross-all-requires-2 c κs = search needs
 
 returns-2 : tie.Need-returns-2
 returns-2 c =
-    let s = c .before .before .before .before .before .before .before .before .before .before .before .before .before .before .before .before .before .before .args .s in
-    let o = c .before .before .before .before .before .before .before .before .before .before .before .before .before .before .before .before .before .is-origin in
-    let e₁ : length (s .tasks) ≡ 25 = search (len-of, needs) in
-    let e₂ : length (s .levels) ≡ 744 = search needs in
-    let e₃ : length (s .waits) ≡ 312 = search needs in
-    let e₄ : length (s .slices) ≡ 31 = search needs in
-    let e₅ : length (s .charges) ≡ 31 = search needs in
-    let e₆ : length (s .counts) ≡ 13 = search needs in
-    let e₇ : length (s .maxima) ≡ 13 = search needs in
-    rw (
+    let start = c .before .before .before .before .before .before .before .before .before .before .before .before .before .before .before .before .before .before .before in
+    let o = c .before .before .before .before .before .before .before .before .before .before .is-origin in
+    simp and-assoc (rw (
       c .cross-all2 .ensures,
       c .before .before .rows-wanted .ensures,
       c .before .before .before .cross-all .ensures,
@@ -64,12 +82,17 @@ returns-2 c =
       c .before .before .before .before .before .before .before .rates-sound .ensures,
       c .before .before .before .before .before .before .before .before .tasks-sound .ensures,
     )
-    (sym (sound-tested s (sym (o .ensures) ∙ not-false (o .result) (c .before .before .before .before .before .before .before .before .before .before .before .before .before .before .before .before .if1 .left)) e₁ e₂ e₃ e₄ e₅ e₆ e₇))
+    (sym (sound-tested (start .args .s) (o .result) (o .ensures) (sized start) (c .before .before .before .before .before .before .before .before .before .if1 .left))))
 
 pub is-sound-spec : {M : Type 1} → statement M
 is-sound-spec =
     tie.close
     (tie.spec
+    array-copy-out-x
+    array-read-is-origin
+    array-read-is-origin-2
+    array-read-is-origin-3
+    array-read-is-origin-4
     is-origin-requires
     returns
     tasks-sound-requires

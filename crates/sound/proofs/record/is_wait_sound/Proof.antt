@@ -1,5 +1,6 @@
 -- `sound::record::is_wait_sound` meets its contract: by what is waited for.
 -- Rests on model/specs/Test.
+use mathlib.Core.Bool.{and-assoc}
 use borrow.Author.Tests.{eq-eqb, ne-eqb}
 use borrow.Author.Needs.{needs}
 use Rattle.sound.proofs.record.is_wait_sound.Statement.{statement}
@@ -9,13 +10,13 @@ returns : tie.Need-returns
 returns c = rw (eq-eqb _ _ (c .if1 .taken))
 
 returns-2 : tie.Need-returns-2
-returns-2 c = rw (ne-eqb _ _ (c .before .if1 .left), eq-eqb _ _ (c .if2 .taken))
+returns-2 c = rw (ne-eqb _ _ (c .before .if1 .left), eq-eqb _ _ (c .if2 .taken)) (simp and-assoc)
 
 is-within-requires : tie.Need-is-within-requires
 is-within-requires c κs = search needs
 
 returns-3 : tie.Need-returns-3
-returns-3 c = rw (c .is-within .ensures, ne-eqb _ _ (c .before .before .if1 .left), ne-eqb _ _ (c .before .if2 .left))
+returns-3 c = rw (c .is-within .ensures, ne-eqb _ _ (c .before .before .if1 .left), ne-eqb _ _ (c .before .if2 .left)) (simp and-assoc)
 
 pub is-wait-sound-spec : {M : Type 1} → statement M
 is-wait-sound-spec = tie.close (tie.spec returns returns-2 is-within-requires returns-3)

@@ -1,5 +1,6 @@
 -- `sound::record::task_sound` meets its contract: by whether the task is created, and test by test.
 -- Rests on model/specs/Test.
+use mathlib.Core.Bool.{and-assoc}
 use borrow.Author.Tests.{eq-eqb, ne-eqb}
 use Rattle.model.specs.Test.{isTaskSound}
 use borrow.Author.Needs.{needs}
@@ -30,7 +31,7 @@ is-wait-sound-requires c κs = search needs
 
 returns-2 : tie.Need-returns-2
 unfolding isTaskSound
-returns-2 c = rw (c .is-wait-sound .ensures, c .before .is-resting .ensures, c .before .before .is-wait-code .ensures, c .before .before .before .is-within2 .ensures, c .before .before .before .before .is-within .ensures, ne-eqb _ _ (c .before .before .before .before .before .if1 .left))
+returns-2 c = simp and-assoc (rw (c .is-wait-sound .ensures, c .before .is-resting .ensures, c .before .before .is-wait-code .ensures, c .before .before .before .is-within2 .ensures, c .before .before .before .before .is-within .ensures, ne-eqb _ _ (c .before .before .before .before .before .if1 .left)))
 
 pub task-sound-spec : {M : Type 1} → statement M
 task-sound-spec =

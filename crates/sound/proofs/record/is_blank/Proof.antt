@@ -1,0 +1,11 @@
+-- `sound::record::is_blank` meets its contract: field by field.
+-- Rests on model/specs/Test.
+use mathlib.Core.Bool.{and-assoc}
+use Rattle.sound.proofs.record.is_blank.Statement.{statement}
+use Rattle.sound.proofs.record.is_blank.Tie as tie
+
+returns : tie.Need-returns
+returns c = simp and-assoc
+
+pub is-blank-spec : {M : Type 1} → statement M
+is-blank-spec = tie.close (tie.spec returns)
