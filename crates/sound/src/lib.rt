@@ -1,4 +1,4 @@
-// The test that the public entries make of any state: whether it is sound. Each place of each table is looked at once or twice.
+// The test that the public entries make of any state: whether it is sound. Each place of a table is looked at three times at most.
 // Each function is a definition of model/specs/Test, for every value; it rests on record for records and on crossing for queues.
 ghost use mathlib.Core.Path.{_≡_};
 ghost use mathlib.Core.List.{map};
