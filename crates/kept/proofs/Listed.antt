@@ -1,0 +1,139 @@
+-- A table that lists the tasks by their keys lists them still, by the new keys, after a task was relisted or a row turned.
+-- It rests on `Lists` of model/specs/Sound and the laws of rows and tables in laws.
+use mathlib.Core.Path.{_≡_, refl, sym, ap, _∙_}
+use mathlib.Core.Bool.{Bool, true, false, not, _&&_}
+use mathlib.Core.List.{List}
+use mathlib.Core.Logic.{_⊎_, inl, inr, ⊎-elim}
+use Prim.Native.Nat.{ℕ, zero, suc, _*_, _≤_, _<_}
+use native.Mathlib.Omega.{arith}
+use lib.Dec.{T, eqb}
+use lib.ListN.{length}
+use borrow.Author.Tests.{eq-eqb, ne-eqb}
+use Rattle.model.specs.Row.{first, joined, left, turned, row, firstOf, withRow, relisted}
+use Rattle.model.specs.Test.{one, occ, padded, isListed}
+use Rattle.model.specs.Sound.{Lists}
+use Rattle.laws.proofs.Number.{same?, below?}
+use Rattle.laws.proofs.Row.{length-turned}
+use Rattle.laws.proofs.Table.{length-row-in, length-withRow, row-withRow-same, row-withRow-other, first-row}
+use Rattle.laws.proofs.Relisted.{relisted-kept, length-relisted, row-relisted-from, row-relisted-to, row-relisted-other, row-relisted-zero}
+use Rattle.laws.proofs.Occ.{one-le, occ-left-same, occ-left-other, occ-joined-same, occ-joined-other, occ-turned, first-in}
+use Rattle.laws.proofs.Padded.{padded-left, padded-joined, padded-turned, first-none}
+use Rattle.laws.proofs.Room.{room}
+
+-- ---- who is listed where
+pub listed-one : (l k : ℕ) → 1 ≤ l → k ≡ l → one (isListed l k) ≡ 1
+listed-one l k some e = rw (ne-eqb l 0 (λ z. omega arith), eq-eqb k l e)
+
+pub listed-none : (l k : ℕ) → (1 ≤ l → k ≡ l → ⊥) → one (isListed l k) ≡ 0
+listed-none zero k apart = refl
+listed-none (suc l) k apart = rw (ne-eqb (suc l) 0 (λ z. omega arith), ne-eqb k (suc l) (apart (omega arith)))
+
+pub listed-by : (l k : ℕ) → 1 ≤ one (isListed l k) → (1 ≤ l) × (k ≡ l)
+listed-by l k h = ⊎-elim
+    (λ (e : k ≡ l). (⊎-elim (λ (z : l ≡ 0). absurd (omega (arith, listed-none l k (λ some _. omega arith)))) (λ (n : l ≡ 0 → ⊥). omega arith) (same? l 0), e))
+    (λ (n : k ≡ l → ⊥). absurd (omega (arith, listed-none l k (λ _ e. n e))))
+    (same? k l)
+
+module _ (ls : List ℕ) (n : ℕ) (key : ℕ → ℕ) (k : Lists ls n key) where
+  -- a listed task has the row's key, and a task with a key is listed
+  pub key-of : (l t : ℕ) → l < n → 1 ≤ t → 1 ≤ occ t (row ls l) → (1 ≤ l) × (key t ≡ l)
+  key-of l t h some there = listed-by l (key t) (omega (arith, k .exactly l t h some))
+
+  pub listed-in : (l t : ℕ) → l < n → 1 ≤ t → 1 ≤ l → key t ≡ l → occ t (row ls l) ≡ 1
+  listed-in l t h some low e = k .exactly l t h some ∙ listed-one l (key t) low e
+
+  pub listed-not : (l t : ℕ) → l < n → 1 ≤ t → (1 ≤ l → key t ≡ l → ⊥) → occ t (row ls l) ≡ 0
+  listed-not l t h some apart = k .exactly l t h some ∙ listed-none l (key t) apart
+
+  -- who stands first has the row's key
+  pub key-first : (l : ℕ) → l < n → (firstOf ls l ≡ 0 → ⊥) → (1 ≤ l) × (key (firstOf ls l) ≡ l)
+  key-first l h some =
+      let e = first-row ls l in
+      key-of l (firstOf ls l) h (omega arith) (rw e (first-in (row ls l) (λ z. some (e ∙ z))))
+
+  -- where only the tasks up to 24 have a key, a row has room for each of them that it does not list
+  pub has-room : ((u : ℕ) → 24 < u → key u ≡ 0) → (l t : ℕ) → l < n → 1 ≤ t → t ≤ 24 → occ t (row ls l) ≡ 0 → 1 ≤ occ 0 (row ls l)
+  has-room far l t h some top none =
+      room (row ls l) t 24 (length-row-in ls l n (k .sized) h)
+      (λ u high. listed-not l u h (omega arith) (λ low e. omega (arith, far u high)))
+      (λ u low. omega (arith, k .exactly l u h low, one-le (isListed l (key u))))
+      some top none
+
+-- ---- a task leaves its row for another
+-- what holds of a row as it was, of one that was left and of one that was joined, holds of each row
+row-cases : (P : List ℕ → Type 0) (ls : List ℕ) (f g t l : ℕ) → P (row ls l) → (l ≡ f → P (left (row ls f) t)) → (l ≡ g → P (joined (row ls g) t))
+    → P (row (relisted ls f g t) l)
+row-cases P ls f g t l as-was from to = ⊎-elim
+    (λ (e : f ≡ g). rw (relisted-kept ls f g t e) as-was)
+    (λ (apart : f ≡ g → ⊥). ⊎-elim
+      (λ (z : l ≡ 0). rw (z, row-relisted-zero ls f g t) (rw z at as-was))
+      (λ (some : l ≡ 0 → ⊥). ⊎-elim
+        (λ (e : l ≡ f). rw (e, row-relisted-from ls f g t apart (λ z. some (e ∙ z))) (from e))
+        (λ (not-f : l ≡ f → ⊥). ⊎-elim
+          (λ (e : l ≡ g). rw (e, row-relisted-to ls f g t apart (λ z. some (e ∙ z))) (to e))
+          (λ (not-g : l ≡ g → ⊥). rw (row-relisted-other ls f g t l not-f not-g) as-was)
+          (same? l g))
+        (same? l f))
+      (same? l 0))
+    (same? f g)
+
+module _ (ls : List ℕ) (n : ℕ) (key : ℕ → ℕ) (k : Lists ls n key) (t g : ℕ) (some : 1 ≤ t) (top : t ≤ 24) (far : (u : ℕ) → 24 < u → key u ≡ 0) where
+  -- where it now stands
+  stands : (l : ℕ) → l < n → occ t (row (relisted ls (key t) g t) l) ≡ one (isListed l g)
+  stands l h = ⊎-elim
+      (λ (e : key t ≡ g). rw (relisted-kept ls (key t) g t e) (rw e at (k .exactly l t h some)))
+      (λ (apart : key t ≡ g → ⊥). ⊎-elim
+        (λ (z : l ≡ 0). rw (z, row-relisted-zero ls (key t) g t) (rw z at (k .exactly l t h some)))
+        (λ (low : l ≡ 0 → ⊥). ⊎-elim
+          (λ (e : l ≡ key t). rw (e, row-relisted-from ls (key t) g t apart (λ z. low (e ∙ z))) (leaves apart (omega arith) e))
+          (λ (not-f : l ≡ key t → ⊥). ⊎-elim
+            (λ (e : l ≡ g). rw (e, row-relisted-to ls (key t) g t apart (λ z. low (e ∙ z))) (joins not-f (omega arith) e))
+            (λ (not-g : l ≡ g → ⊥). rw (row-relisted-other ls (key t) g t l not-f not-g) (listed-not ls n key k l t h some (λ _ e. not-f (sym e)) ∙ sym (listed-none l g (λ _ e. not-g (sym e)))))
+            (same? l g))
+          (same? l (key t)))
+        (same? l 0))
+      (same? (key t) g)
+    where
+      leaves : (key t ≡ g → ⊥) → 1 ≤ l → l ≡ key t → occ t (left (row ls (key t)) t) ≡ one (isListed (key t) g)
+      leaves apart low e =
+          let there : occ t (row ls (key t)) ≡ 1 = listed-in ls n key k (key t) t (omega arith) some (omega arith) refl in
+          omega (arith, occ-left-same (row ls (key t)) t some (omega arith), listed-none (key t) g (λ _ z. apart (sym z)))
+
+      joins : (l ≡ key t → ⊥) → 1 ≤ l → l ≡ g → occ t (joined (row ls g) t) ≡ one (isListed g g)
+      joins not-f low e =
+          let none : occ t (row ls g) ≡ 0 = listed-not ls n key k g t (omega arith) some (λ _ z. not-f (e ∙ sym z)) in
+          omega (arith, occ-joined-same (row ls g) t some (has-room ls n key k far g t (omega arith) some top none), listed-one g g (omega arith) refl)
+
+  pub lists-relisted : (key′ : ℕ → ℕ) → key′ t ≡ g → ((u : ℕ) → (u ≡ t → ⊥) → key′ u ≡ key u) → Lists (relisted ls (key t) g t) n key′
+  lists-relisted key′ now others = record {
+    sized = length-relisted ls (key t) g t ∙ k .sized;
+    exactly = λ l u h low. ⊎-elim
+        (λ (e : u ≡ t). rw (e, now) (stands l h))
+        (λ (other : u ≡ t → ⊥). rw (others u other) (kept l u low other ∙ k .exactly l u h low))
+        (same? u t);
+    ends = λ l h. row-cases (λ q. T (padded q)) ls (key t) g t l (k .ends l h)
+        (λ e. padded-left (row ls (key t)) t (rw e at (k .ends l h)))
+        (λ e. padded-joined (row ls g) t (rw e at (k .ends l h)));
+  }
+    where
+      kept : (l u : ℕ) → 1 ≤ u → (u ≡ t → ⊥) → occ u (row (relisted ls (key t) g t) l) ≡ occ u (row ls l)
+      kept l u low other = row-cases (λ q. occ u q ≡ occ u (row ls l)) ls (key t) g t l refl
+          (λ e. rw e (occ-left-other (row ls (key t)) t u low other))
+          (λ e. rw e (occ-joined-other (row ls g) t u low other))
+
+-- ---- the first of a row becomes its last
+pub lists-turned : (ls : List ℕ) (n : ℕ) (key : ℕ → ℕ) (l : ℕ) → Lists ls n key → Lists (withRow ls l (turned (row ls l))) n key
+lists-turned ls n key l k = record {
+  sized = length-withRow ls l (turned (row ls l)) same ∙ k .sized;
+  exactly = λ m u h low. rows (λ q. occ u q ≡ one (isListed m (key u))) m (occ-turned (row ls m) u low ∙ k .exactly m u h low) (k .exactly m u h low);
+  ends = λ m h. rows (λ q. T (padded q)) m (padded-turned (row ls m) (k .ends m h)) (k .ends m h);
+}
+  where
+    same : length (turned (row ls l)) ≡ length (row ls l)
+    same = length-turned (row ls l)
+
+    rows : (P : List ℕ → Type 0) (m : ℕ) → P (turned (row ls m)) → P (row ls m) → P (row (withRow ls l (turned (row ls l))) m)
+    rows P m turns stays = ⊎-elim
+        (λ (e : m ≡ l). rw (e, row-withRow-same ls l (turned (row ls l)) same) (rw e at turns))
+        (λ (other : m ≡ l → ⊥). rw (row-withRow-other ls l (turned (row ls l)) same m other) stays)
+        (same? m l)
