@@ -1,0 +1,211 @@
+-- Each change of model/specs/State keeps a sound state sound: a task moved, a semaphore counted, a level sliced, charged or turned, the time.
+-- It rests on the tables' laws in Listed; what a change asks for is a condition on the numbers it stores.
+use mathlib.Core.Path.{_≡_, refl, sym, ap, _∙_, subst}
+use mathlib.Core.Bool.{Bool, true, false, cond}
+use mathlib.Core.List.{List}
+use mathlib.Core.Logic.{_⊎_, inl, inr, ⊎-elim}
+use Prim.Native.Nat.{ℕ, zero, suc, _*_, _≤_, _<_}
+use native.Mathlib.Omega.{arith}
+use lib.Dec.{T, eqb}
+use lib.ListN.{length, getD, set, length-set, List·getD-eq-default}
+use lib.Seq.{getD-set-same, getD-set-other, set-out}
+use borrow.Author.Tests.{eqb-true}
+use Rattle.model.specs.declared.Task.{Task}
+use Rattle.model.specs.declared.State.{State}
+use Rattle.model.specs.Task.{noTask, isRunnable, aSemaphore, levelOf, rowOf}
+use Rattle.model.specs.State.{task, slice, charge, count, maximum, moved, counted, sliced, withCharge, rotated, withTime}
+use Rattle.model.specs.Sound.{Lists, SoundTask, Sound}
+use Rattle.laws.proofs.Number.{same?, below?}
+use Rattle.kept.proofs.Listed.{lists-relisted, lists-turned}
+
+-- ---- what is read after a store
+-- what holds of the stored value where it is stored, and of the old one, holds of what is read
+pub stored {ℓ} : {A : Type ℓ} (P : A → Type 0) (xs : List A) (i : ℕ) (a : A) (j : ℕ) (d : A) → (j ≡ i → P a) → P (getD xs j d) → P (getD (set xs i a) j d)
+stored P xs i a j d here else = ⊎-elim
+    (λ (e : j ≡ i). ⊎-elim
+      (λ (h : i < length xs). rw (e, getD-set-same xs i a d h) (here e))
+      (λ (h : length xs ≤ i). rw (set-out xs i a h) else)
+      (below? i (length xs)))
+    (λ (other : j ≡ i → ⊥). rw (getD-set-other xs i j a d other) else)
+    (same? j i)
+
+-- the same of two tables of one length
+pub stored-both : (P : ℕ → ℕ → Type 0) (xs ys : List ℕ) (i a b j : ℕ) → length xs ≡ length ys → (j ≡ i → P a b) → P (getD xs j 0) (getD ys j 0)
+    → P (getD (set xs i a) j 0) (getD (set ys i b) j 0)
+stored-both P xs ys i a b j long here else = ⊎-elim
+    (λ (e : j ≡ i). ⊎-elim
+      (λ (h : i < length xs). rw (e, getD-set-same xs i a 0 h, getD-set-same ys i b 0 (omega arith)) (here e))
+      (λ (h : length xs ≤ i). rw (set-out xs i a h, set-out ys i b (omega arith)) else)
+      (below? i (length xs)))
+    (λ (other : j ≡ i → ⊥). rw (getD-set-other xs i j a 0 other, getD-set-other ys i j b 0 other) else)
+    (same? j i)
+
+-- ---- the keys of a sound record are rows of their tables
+pub level-top : (x : Task) → SoundTask x → levelOf x < 31
+unfolding levelOf
+level-top x h = ⊎-elim
+    (λ (e : x .base ≡ 0). rw (h .blank e) (omega arith))
+    (λ (made : x .base ≡ 0 → ⊥). go (isRunnable x) (h .priority (omega arith)))
+    (same? (x .base) 0)
+  where
+    go : (b : Bool) → (1 ≤ x .priority) × (x .priority ≤ 30) → cond b (x .priority) 0 < 31
+    go true r = omega arith
+    go false r = omega arith
+
+pub row-top : (x : Task) → SoundTask x → rowOf x < 13
+unfolding rowOf
+row-top x h = go (eqb (x .wait) aSemaphore) refl
+  where
+    go : (b : Bool) → eqb (x .wait) aSemaphore ≡ b → cond b (x .object) 0 < 13
+    go true e = omega (arith, h .object (eqb-true (x .wait) aSemaphore e))
+    go false e = omega arith
+
+pub no-task : (s : State) → Sound s → (t : ℕ) → 24 < t → task s t ≡ noTask
+no-task s k t h = List·getD-eq-default (s .tasks) noTask (omega (arith, k .tasks#))
+
+-- ---- a task moves
+-- whoever waits on a semaphore finds it created and its count 0
+abbrev pub MayWait : State → Task → Type 0
+MayWait s x = (m : ℕ) → 1 ≤ m → rowOf x ≡ m → (count s m ≡ 0) × (1 ≤ maximum s m)
+
+module _ (s : State) (k : Sound s) (t : ℕ) (x : Task) (some : 1 ≤ t) (top : t ≤ 24) where
+  pub task-same : task (moved t x s) t ≡ x
+  unfolding moved
+  task-same = getD-set-same (s .tasks) t x noTask (omega (arith, k .tasks#))
+
+  pub task-other : (u : ℕ) → (u ≡ t → ⊥) → task (moved t x s) u ≡ task s u
+  unfolding moved
+  task-other u other = getD-set-other (s .tasks) t u x noTask other
+
+  pub task-cases : (P : Task → Type 0) (u : ℕ) → (u ≡ t → P x) → P (task s u) → P (task (moved t x s) u)
+  unfolding moved
+  task-cases P u here else = stored P (s .tasks) t x u noTask here else
+
+  module _ (sound : SoundTask x) (may : MayWait s x) where
+    pub sound-moved : Sound (moved t x s)
+    unfolding moved levelOf rowOf
+    sound-moved = record {
+      tasks# = length-set (s .tasks) t x ∙ k .tasks#;
+      slices# = k .slices#;
+      charges# = k .charges#;
+      counts# = k .counts#;
+      maxima# = k .maxima#;
+      origin = (task-other 0 (λ e. omega arith) ∙ k .origin .0, k .origin .1, k .origin .2, k .origin .3, k .origin .4);
+      tasks = λ u. task-cases SoundTask u (λ e. sound) (k .tasks u);
+      levels = lists-relisted (s .levels) 31 (λ u. levelOf (task s u)) (k .levels) t (levelOf x) some top (λ u h. ap levelOf (no-task s k u h))
+          (λ u. levelOf (task (moved t x s) u)) (ap levelOf task-same) (λ u other. ap levelOf (task-other u other));
+      waits = lists-relisted (s .waits) 13 (λ u. rowOf (task s u)) (k .waits) t (rowOf x) some top (λ u h. ap rowOf (no-task s k u h))
+          (λ u. rowOf (task (moved t x s) u)) (ap rowOf task-same) (λ u other. ap rowOf (task-other u other));
+      slices = k .slices;
+      charges = k .charges;
+      counts = k .counts;
+      maxima = k .maxima;
+      waited = λ m u low. task-cases (λ y. rowOf y ≡ m → (count s m ≡ 0) × (1 ≤ maximum s m)) u (λ e. may m low) (k .waited m u low);
+    }
+
+-- ---- a semaphore's numbers
+pub sound-counted : (s : State) (m n v : ℕ) → Sound s → 1 ≤ m → n ≤ v → v ≤ 65535 → ((t : ℕ) → rowOf (task s t) ≡ m → (n ≡ 0) × (1 ≤ v)) → Sound (counted m n v s)
+unfolding counted
+sound-counted s m n v k some low top free = record {
+  tasks# = k .tasks#;
+  slices# = k .slices#;
+  charges# = k .charges#;
+  counts# = length-set (s .counts) m n ∙ k .counts#;
+  maxima# = length-set (s .maxima) m v ∙ k .maxima#;
+  origin = (k .origin .0, k .origin .1, k .origin .2, getD-set-other (s .counts) m 0 n 0 (λ e. omega arith) ∙ k .origin .3, getD-set-other (s .maxima) m 0 v 0 (λ e. omega arith) ∙ k .origin .4);
+  tasks = k .tasks;
+  levels = k .levels;
+  waits = k .waits;
+  slices = k .slices;
+  charges = k .charges;
+  counts = λ i. stored-both (λ a b. a ≤ b) (s .counts) (s .maxima) m n v i same (λ e. low) (k .counts i);
+  maxima = λ i. stored (λ b. b ≤ 65535) (s .maxima) m v i 0 (λ e. top) (k .maxima i);
+  waited = λ i t h e. stored-both (λ a b. (a ≡ 0) × (1 ≤ b)) (s .counts) (s .maxima) m n v i same (λ z. free t (e ∙ z)) (k .waited i t h e);
+}
+  where
+    same : length (s .counts) ≡ length (s .maxima)
+    same = k .counts# ∙ sym (k .maxima#)
+
+-- ---- a level's slice and charge
+pub sound-sliced : (s : State) (l v : ℕ) → Sound s → 1 ≤ l → v ≤ 1000 → Sound (sliced l v s)
+unfolding sliced
+sound-sliced s l v k some top = record {
+  tasks# = k .tasks#;
+  slices# = length-set (s .slices) l v ∙ k .slices#;
+  charges# = length-set (s .charges) l 0 ∙ k .charges#;
+  counts# = k .counts#;
+  maxima# = k .maxima#;
+  origin = (k .origin .0, getD-set-other (s .slices) l 0 v 0 (λ e. omega arith) ∙ k .origin .1, getD-set-other (s .charges) l 0 0 0 (λ e. omega arith) ∙ k .origin .2, k .origin .3, k .origin .4);
+  tasks = k .tasks;
+  levels = k .levels;
+  waits = k .waits;
+  slices = λ i. stored (λ b. b ≤ 1000) (s .slices) l v i 0 (λ e. top) (k .slices i);
+  charges = λ i. stored-both (λ a b. (a < b) ⊎ ((b ≡ 0) × (a ≡ 0))) (s .charges) (s .slices) l 0 v i same (λ e. cleared) (k .charges i);
+  counts = k .counts;
+  maxima = k .maxima;
+  waited = k .waited;
+}
+  where
+    same : length (s .charges) ≡ length (s .slices)
+    same = k .charges# ∙ sym (k .slices#)
+
+    cleared : (0 < v) ⊎ ((v ≡ 0) × (_≡_ {A = ℕ} 0 0))
+    cleared = ⊎-elim (λ (h : 0 < v). inl h) (λ (h : v ≤ 0). inr (omega arith, refl)) (below? 0 v)
+
+pub sound-withCharge : (s : State) (l n : ℕ) → Sound s → n < slice s l → Sound (withCharge l n s)
+sound-withCharge s l n k low = record {
+  tasks# = k .tasks#;
+  slices# = k .slices#;
+  charges# = length-set (s .charges) l n ∙ k .charges#;
+  counts# = k .counts#;
+  maxima# = k .maxima#;
+  origin = (k .origin .0, k .origin .1, getD-set-other (s .charges) l 0 n 0 some ∙ k .origin .2, k .origin .3, k .origin .4);
+  tasks = k .tasks;
+  levels = k .levels;
+  waits = k .waits;
+  slices = k .slices;
+  charges = λ i. stored (λ a. (a < slice s i) ⊎ ((slice s i ≡ 0) × (a ≡ 0))) (s .charges) l n i 0 (λ e. inl (rw e low)) (k .charges i);
+  counts = k .counts;
+  maxima = k .maxima;
+  waited = k .waited;
+}
+  where
+    some : 0 ≡ l → ⊥
+    some e = let none : slice s l ≡ 0 = rw (← e) (k .origin .1) in omega arith
+
+pub sound-rotated : (s : State) (l : ℕ) → Sound s → Sound (rotated l s)
+unfolding rotated
+sound-rotated s l k = record {
+  tasks# = k .tasks#;
+  slices# = k .slices#;
+  charges# = k .charges#;
+  counts# = k .counts#;
+  maxima# = k .maxima#;
+  origin = k .origin;
+  tasks = k .tasks;
+  levels = lists-turned (s .levels) 31 (λ t. levelOf (task s t)) l (k .levels);
+  waits = k .waits;
+  slices = k .slices;
+  charges = k .charges;
+  counts = k .counts;
+  maxima = k .maxima;
+  waited = k .waited;
+}
+
+pub sound-withTime : (s : State) (n : ℕ) → Sound s → Sound (withTime n s)
+sound-withTime s n k = record {
+  tasks# = k .tasks#;
+  slices# = k .slices#;
+  charges# = k .charges#;
+  counts# = k .counts#;
+  maxima# = k .maxima#;
+  origin = k .origin;
+  tasks = k .tasks;
+  levels = k .levels;
+  waits = k .waits;
+  slices = k .slices;
+  charges = k .charges;
+  counts = k .counts;
+  maxima = k .maxima;
+  waited = k .waited;
+}
