@@ -77,9 +77,11 @@ module _ (s : State) (k : Sound s) (t : ℕ) (x : Task) (some : 1 ≤ t) (top : 
   unfolding moved
   task-other u other = getD-set-other (s .tasks) t u x noTask other
 
-  pub task-cases : (P : Task → Type 0) (u : ℕ) → (u ≡ t → P x) → P (task s u) → P (task (moved t x s) u)
-  unfolding moved
-  task-cases P u here else = stored P (s .tasks) t x u noTask here else
+  pub task-cases : (P : Task → Type 0) (u : ℕ) → (u ≡ t → P x) → ((u ≡ t → ⊥) → P (task s u)) → P (task (moved t x s) u)
+  task-cases P u here else = ⊎-elim
+      (λ (e : u ≡ t). subst P (sym (ap (task (moved t x s)) e ∙ task-same)) (here e))
+      (λ (other : u ≡ t → ⊥). subst P (sym (task-other u other)) (else other))
+      (same? u t)
 
   module _ (sound : SoundTask x) (may : MayWait s x) where
     pub sound-moved : Sound (moved t x s)
@@ -91,7 +93,7 @@ module _ (s : State) (k : Sound s) (t : ℕ) (x : Task) (some : 1 ≤ t) (top : 
       counts# = k .counts#;
       maxima# = k .maxima#;
       origin = (task-other 0 (λ e. omega arith) ∙ k .origin .0, k .origin .1, k .origin .2, k .origin .3, k .origin .4);
-      tasks = λ u. task-cases SoundTask u (λ e. sound) (k .tasks u);
+      tasks = λ u. task-cases SoundTask u (λ e. sound) (λ other. k .tasks u);
       levels = lists-relisted (s .levels) 31 (λ u. levelOf (task s u)) (k .levels) t (levelOf x) some top (λ u h. ap levelOf (no-task s k u h))
           (λ u. levelOf (task (moved t x s) u)) (ap levelOf task-same) (λ u other. ap levelOf (task-other u other));
       waits = lists-relisted (s .waits) 13 (λ u. rowOf (task s u)) (k .waits) t (rowOf x) some top (λ u h. ap rowOf (no-task s k u h))
@@ -100,7 +102,7 @@ module _ (s : State) (k : Sound s) (t : ℕ) (x : Task) (some : 1 ≤ t) (top : 
       charges = k .charges;
       counts = k .counts;
       maxima = k .maxima;
-      waited = λ m u low. task-cases (λ y. rowOf y ≡ m → (count s m ≡ 0) × (1 ≤ maximum s m)) u (λ e. may m low) (k .waited m u low);
+      waited = λ m u low. task-cases (λ y. rowOf y ≡ m → (count s m ≡ 0) × (1 ≤ maximum s m)) u (λ e. may m low) (λ other. k .waited m u low);
     }
 
 -- ---- a semaphore's numbers

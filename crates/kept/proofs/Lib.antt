@@ -1,2 +1,4 @@
 pub mod Listed
 pub mod Changes
+pub mod Records
+pub mod Effects
