@@ -1,18 +1,15 @@
 -- Each change of model/specs/State keeps a sound state sound: a task moved, a semaphore counted, a level sliced, charged or turned, the time.
 -- It rests on the tables' laws in Listed; what a change asks for is a condition on the numbers it stores.
 use mathlib.Core.Path.{_≡_, refl, sym, ap, _∙_, subst}
-use mathlib.Core.Bool.{Bool, true, false, cond}
 use mathlib.Core.List.{List}
 use mathlib.Core.Logic.{_⊎_, inl, inr, ⊎-elim}
-use Prim.Native.Nat.{ℕ, zero, suc, _*_, _≤_, _<_}
+use Prim.Native.Nat.{ℕ, _≤_, _<_}
 use native.Mathlib.Omega.{arith}
-use lib.Dec.{T, eqb}
 use lib.ListN.{length, getD, set, length-set, List·getD-eq-default}
 use lib.Seq.{getD-set-same, getD-set-other, set-out}
-use borrow.Author.Tests.{eqb-true}
 use Rattle.model.specs.declared.Task.{Task}
 use Rattle.model.specs.declared.State.{State}
-use Rattle.model.specs.Task.{noTask, isRunnable, aSemaphore, levelOf, rowOf}
+use Rattle.model.specs.Task.{noTask, levelOf, rowOf}
 use Rattle.model.specs.State.{task, slice, charge, count, maximum, moved, counted, sliced, withCharge, rotated, withTime}
 use Rattle.model.specs.Sound.{Lists, SoundTask, Sound}
 use Rattle.laws.proofs.Number.{same?, below?}
@@ -40,28 +37,15 @@ stored-both P xs ys i a b j long here else = ⊎-elim
     (λ (other : j ≡ i → ⊥). rw (getD-set-other xs i j a 0 other, getD-set-other ys i j b 0 other) else)
     (same? j i)
 
--- ---- the keys of a sound record are rows of their tables
-pub level-top : (x : Task) → SoundTask x → levelOf x < 31
-unfolding levelOf
-level-top x h = ⊎-elim
-    (λ (e : x .base ≡ 0). rw (h .blank e) (omega arith))
-    (λ (made : x .base ≡ 0 → ⊥). go (isRunnable x) (h .priority (omega arith)))
-    (same? (x .base) 0)
-  where
-    go : (b : Bool) → (1 ≤ x .priority) × (x .priority ≤ 30) → cond b (x .priority) 0 < 31
-    go true r = omega arith
-    go false r = omega arith
-
-pub row-top : (x : Task) → SoundTask x → rowOf x < 13
-unfolding rowOf
-row-top x h = go (eqb (x .wait) aSemaphore) refl
-  where
-    go : (b : Bool) → eqb (x .wait) aSemaphore ≡ b → cond b (x .object) 0 < 13
-    go true e = omega (arith, h .object (eqb-true (x .wait) aSemaphore e))
-    go false e = omega arith
-
+-- ---- who has a key is one of the tasks
 pub no-task : (s : State) → Sound s → (t : ℕ) → 24 < t → task s t ≡ noTask
 no-task s k t h = List·getD-eq-default (s .tasks) noTask (omega (arith, k .tasks#))
+
+pub task-in : (key : Task → ℕ) → key noTask ≡ 0 → (s : State) → Sound s → (t : ℕ) → 1 ≤ key (task s t) → (1 ≤ t) × (t ≤ 24)
+task-in key z s k t h =
+    let low : t ≡ 0 → ⊥ = λ e. omega (arith, ap (λ u. key (task s u)) e ∙ ap key (k .origin .0) ∙ z) in
+    let top : 24 < t → ⊥ = λ out. omega (arith, ap key (no-task s k t out) ∙ z) in
+    (omega arith, omega arith)
 
 -- ---- a task moves
 -- whoever waits on a semaphore finds it created and its count 0

@@ -21,7 +21,7 @@ use Rattle.laws.proofs.Number.{same?, below?}
 use Rattle.laws.proofs.Occ.{one-eq, one-ne, occ-cons, occ-none}
 use Rattle.laws.proofs.Padded.{first-none}
 use Rattle.kept.proofs.Listed.{key-of, listed-in}
-use Rattle.kept.proofs.Changes.{MayWait, no-task, task-cases, sound-moved, sound-counted, sound-sliced, sound-withCharge, sound-rotated, sound-withTime}
+use Rattle.kept.proofs.Changes.{MayWait, task-in, task-cases, sound-moved, sound-counted, sound-sliced, sound-withCharge, sound-rotated, sound-withTime}
 use Rattle.kept.proofs.Records.{row-live, sound-dormant, sound-activated, sound-ended, sound-aged, aged-row}
 
 -- what a plan's tests have shown of its effect
@@ -42,15 +42,9 @@ pub may-same : (s : State) → Sound s → (t : ℕ) (x : Task) → rowOf x ≡ 
 may-same s k t x e m some f = k .waited m t some (sym e ∙ f)
 
 -- who is listed by a semaphore is one of the tasks
-pub waiter-top : (s : State) → Sound s → (t : ℕ) → 1 ≤ rowOf (task s t) → (1 ≤ t) × (t ≤ 24)
+pub waiter-in : (s : State) → Sound s → (t : ℕ) → 1 ≤ rowOf (task s t) → (1 ≤ t) × (t ≤ 24)
 unfolding rowOf
-waiter-top s k t h = (low, top)
-  where
-    low : 1 ≤ t
-    low = let some : t ≡ 0 → ⊥ = λ e. omega (arith, rw e at h, ap rowOf (k .origin .0)) in omega arith
-
-    top : t ≤ 24
-    top = ⊎-elim (λ (out : 24 < t). absurd (omega (arith, ap rowOf (no-task s k t out)))) (λ (h : t ≤ 24). h) (below? 24 t)
+waiter-in s k t h = task-in rowOf refl s k t h
 
 -- ---- a task stops
 sound-stopped : (s : State) → Sound s → (t : ℕ) → 1 ≤ t → t ≤ 24 → 1 ≤ task s t .base → Sound (stopped t s)
@@ -128,12 +122,12 @@ sound-deleted s k m some top = sound-counted (endedAll (waiters s m) s) m 0 0 (z
       ends = k .waits .ends m (omega arith);
       lives = λ t low there.
           let e = key-of (s .waits) 13 (λ t. rowOf (task s t)) (k .waits) m t (omega arith) low there .1 in
-          (waiter-top s k t (omega arith) .1, row-live (task s t) (k .tasks t) (omega arith));
+          (waiter-in s k t (omega arith) .1, row-live (task s t) (k .tasks t) (omega arith));
       holds = λ t low e. omega (arith, listed-in (s .waits) 13 (λ t. rowOf (task s t)) (k .waits) m t (omega arith) low some e);
     })
 
     nobody : (t : ℕ) → rowOf (task (endedAll (waiters s m) s) t) ≡ m → ⊥
-    nobody t e = z .free t (waiter-top (endedAll (waiters s m) s) (z .sound) t (omega arith) .0) e
+    nobody t e = z .free t (waiter-in (endedAll (waiters s m) s) (z .sound) t (omega arith) .0) e
 
 -- ---- a tick passes
 sound-chargedLevel : (s : State) → Sound s → (l : ℕ) → Sound (chargedLevel l s)

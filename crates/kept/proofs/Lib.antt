@@ -2,3 +2,5 @@ pub mod Listed
 pub mod Changes
 pub mod Records
 pub mod Effects
+pub mod Running
+pub mod Shapes

@@ -22,7 +22,7 @@ pub some-of : (n : ℕ) → T (not (eqb n 0)) → 1 ≤ n
 some-of zero h = absurd h
 some-of (suc n) h = omega arith
 
-none-of : (n : ℕ) → T (not (not (eqb n 0))) → n ≡ 0
+pub none-of : (n : ℕ) → T (not (not (eqb n 0))) → n ≡ 0
 none-of n h = go (eqb n 0) refl h
   where
     go : (b : Bool) → eqb n 0 ≡ b → T (not (not b)) → n ≡ 0
