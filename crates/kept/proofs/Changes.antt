@@ -10,32 +10,24 @@ use lib.Seq.{getD-set-same, getD-set-other, set-out}
 use Rattle.model.specs.declared.Task.{Task}
 use Rattle.model.specs.declared.State.{State}
 use Rattle.model.specs.Task.{noTask, levelOf, rowOf}
-use Rattle.model.specs.State.{task, slice, charge, count, maximum, moved, counted, sliced, withCharge, rotated, withTime}
-use Rattle.model.specs.Sound.{Lists, SoundTask, Sound}
+use Rattle.model.specs.State.{task, slice, count, maximum, moved, counted, sliced, withCharge, rotated, withTime}
+use Rattle.model.specs.Sound.{SoundTask, Sound}
 use Rattle.laws.proofs.Number.{same?, below?}
 use Rattle.kept.proofs.Listed.{lists-relisted, lists-turned}
 
 -- ---- what is read after a store
--- what holds of the stored value where it is stored, and of the old one, holds of what is read
-pub stored {ℓ} : {A : Type ℓ} (P : A → Type 0) (xs : List A) (i : ℕ) (a : A) (j : ℕ) (d : A) → (j ≡ i → P a) → P (getD xs j d) → P (getD (set xs i a) j d)
-stored P xs i a j d here else = ⊎-elim
-    (λ (e : j ≡ i). ⊎-elim
-      (λ (h : i < length xs). rw (e, getD-set-same xs i a d h) (here e))
-      (λ (h : length xs ≤ i). rw (set-out xs i a h) else)
-      (below? i (length xs)))
-    (λ (other : j ≡ i → ⊥). rw (getD-set-other xs i j a d other) else)
-    (same? j i)
-
--- the same of two tables of one length
-pub stored-both : (P : ℕ → ℕ → Type 0) (xs ys : List ℕ) (i a b j : ℕ) → length xs ≡ length ys → (j ≡ i → P a b) → P (getD xs j 0) (getD ys j 0)
+-- what holds of the values stored in two tables of one length, and of the old ones, holds of what is read
+stored-both : (P : ℕ → ℕ → Type 0) (xs ys : List ℕ) (i a b j : ℕ) → length xs ≡ length ys → (j ≡ i → P a b) → P (getD xs j 0) (getD ys j 0)
     → P (getD (set xs i a) j 0) (getD (set ys i b) j 0)
-stored-both P xs ys i a b j long here else = ⊎-elim
-    (λ (e : j ≡ i). ⊎-elim
-      (λ (h : i < length xs). rw (e, getD-set-same xs i a 0 h, getD-set-same ys i b 0 (omega arith)) (here e))
-      (λ (h : length xs ≤ i). rw (set-out xs i a h, set-out ys i b (omega arith)) else)
-      (below? i (length xs)))
-    (λ (other : j ≡ i → ⊥). rw (getD-set-other xs i j a 0 other, getD-set-other ys i j b 0 other) else)
-    (same? j i)
+stored-both P xs ys i a b j long here else = go (same? j i) (below? i (length xs))
+  where
+    go : (j ≡ i) ⊎ (j ≡ i → ⊥) → (i < length xs) ⊎ (length xs ≤ i) → P (getD (set xs i a) j 0) (getD (set ys i b) j 0)
+    go (inl e) (inl h) = rw (e, getD-set-same xs i a 0 h, getD-set-same ys i b 0 (omega arith)) (here e)
+    go (inl e) (inr h) = rw (set-out xs i a h, set-out ys i b (omega arith)) else
+    go (inr other) h = rw (getD-set-other xs i j a 0 other, getD-set-other ys i j b 0 other) else
+
+stored : (P : ℕ → Type 0) (xs : List ℕ) (i a j : ℕ) → (j ≡ i → P a) → P (getD xs j 0) → P (getD (set xs i a) j 0)
+stored P xs i a j here else = stored-both (λ x y. P x) xs xs i a a j refl here else
 
 -- ---- who has a key is one of the tasks
 pub no-task : (s : State) → Sound s → (t : ℕ) → 24 < t → task s t ≡ noTask
@@ -105,7 +97,7 @@ sound-counted s m n v k some low top free = record {
   slices = k .slices;
   charges = k .charges;
   counts = λ i. stored-both (λ a b. a ≤ b) (s .counts) (s .maxima) m n v i same (λ e. low) (k .counts i);
-  maxima = λ i. stored (λ b. b ≤ 65535) (s .maxima) m v i 0 (λ e. top) (k .maxima i);
+  maxima = λ i. stored (λ b. b ≤ 65535) (s .maxima) m v i (λ e. top) (k .maxima i);
   waited = λ i t h e. stored-both (λ a b. (a ≡ 0) × (1 ≤ b)) (s .counts) (s .maxima) m n v i same (λ z. free t (e ∙ z)) (k .waited i t h e);
 }
   where
@@ -125,7 +117,7 @@ sound-sliced s l v k some top = record {
   tasks = k .tasks;
   levels = k .levels;
   waits = k .waits;
-  slices = λ i. stored (λ b. b ≤ 1000) (s .slices) l v i 0 (λ e. top) (k .slices i);
+  slices = λ i. stored (λ b. b ≤ 1000) (s .slices) l v i (λ e. top) (k .slices i);
   charges = λ i. stored-both (λ a b. (a < b) ⊎ ((b ≡ 0) × (a ≡ 0))) (s .charges) (s .slices) l 0 v i same (λ e. cleared) (k .charges i);
   counts = k .counts;
   maxima = k .maxima;
@@ -150,7 +142,7 @@ sound-withCharge s l n k low = record {
   levels = k .levels;
   waits = k .waits;
   slices = k .slices;
-  charges = λ i. stored (λ a. (a < slice s i) ⊎ ((slice s i ≡ 0) × (a ≡ 0))) (s .charges) l n i 0 (λ e. inl (rw e low)) (k .charges i);
+  charges = λ i. stored (λ a. (a < slice s i) ⊎ ((slice s i ≡ 0) × (a ≡ 0))) (s .charges) l n i (λ e. inl (rw e low)) (k .charges i);
   counts = k .counts;
   maxima = k .maxima;
   waited = k .waited;

@@ -1,23 +1,23 @@
 -- An effect that fits a sound state, by what the tests of its plan have shown, is carried out into a sound state.
 -- It rests on the changes of Changes and the records of Records; the deletion and the tick go by induction over the tasks they move.
-use mathlib.Core.Path.{_≡_, refl, sym, ap, _∙_}
+use mathlib.Core.Path.{_≡_, refl, sym, _∙_}
 use mathlib.Core.Bool.{Bool, true, false, cond}
 use mathlib.Core.List.{List, [], _∷_}
-use mathlib.Core.Logic.{_⊎_, inl, inr, ⊎-elim}
-use Prim.Native.Nat.{ℕ, zero, suc, _+_, _≤_, _<_, _%_, _^_}
+use mathlib.Core.Logic.{⊎-elim}
+use Prim.Native.Nat.{ℕ, zero, suc, _+_, _≤_, _%_, _^_}
 use native.Mathlib.Omega.{arith}
 use lib.Dec.{T, eqb, ltb}
-use borrow.Author.Tests.{eqb-true, eqb-false, ltb-true, ne-eqb, eq-eqb}
+use borrow.Author.Tests.{eqb-false, ltb-true, ne-eqb, eq-eqb}
 use Rattle.model.specs.declared.Task.{Task}
 use Rattle.model.specs.declared.State.{State}
 use Rattle.model.specs.declared.Effect.{Effect}
 use Rattle.model.specs.declared.Effect.the-variants.{Nothing, Moves, Stops, Counts, Deletes, Slices, Ticks}
-use Rattle.model.specs.Task.{noTask, dormant, activated, ended, dlt, aged, rowOf}
-use Rattle.model.specs.State.{task, slice, charge, count, maximum, waiters, running, moved, counted, sliced, withCharge, rotated, withTime}
+use Rattle.model.specs.Task.{dormant, activated, ended, dlt, aged, rowOf}
+use Rattle.model.specs.State.{task, slice, charge, waiters, running, moved, withCharge, rotated, withTime}
 use Rattle.model.specs.Effect.{stopped, endedAll, deleted, chargedLevel, charged, lapsed, ticked, carried}
 use Rattle.model.specs.Test.{occ, listsOnly, padded}
 use Rattle.model.specs.Sound.{SoundTask, Sound}
-use Rattle.laws.proofs.Number.{same?, below?}
+use Rattle.laws.proofs.Number.{same?}
 use Rattle.laws.proofs.Occ.{one-eq, one-ne, occ-cons, occ-none}
 use Rattle.laws.proofs.Padded.{first-none}
 use Rattle.kept.proofs.Listed.{key-of, listed-in}

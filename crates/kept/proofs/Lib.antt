@@ -4,3 +4,5 @@ pub mod Records
 pub mod Effects
 pub mod Running
 pub mod Shapes
+pub mod Fresh
+pub mod Kept

@@ -1,23 +1,22 @@
 -- A table that lists the tasks by their keys lists them still, by the new keys, after a task was relisted or a row turned.
 -- It rests on `Lists` of model/specs/Sound and the laws of rows and tables in laws.
-use mathlib.Core.Path.{_≡_, refl, sym, ap, _∙_}
-use mathlib.Core.Bool.{Bool, true, false, not, _&&_}
+use mathlib.Core.Path.{_≡_, refl, sym, _∙_}
 use mathlib.Core.List.{List}
 use mathlib.Core.Logic.{_⊎_, inl, inr, ⊎-elim}
-use Prim.Native.Nat.{ℕ, zero, suc, _*_, _≤_, _<_}
+use Prim.Native.Nat.{ℕ, zero, suc, _≤_, _<_}
 use native.Mathlib.Omega.{arith}
-use lib.Dec.{T, eqb}
+use lib.Dec.{T}
 use lib.ListN.{length}
 use borrow.Author.Tests.{eq-eqb, ne-eqb}
-use Rattle.model.specs.Row.{first, joined, left, turned, row, firstOf, withRow, relisted}
+use Rattle.model.specs.Row.{joined, left, turned, row, firstOf, withRow, relisted}
 use Rattle.model.specs.Test.{one, occ, padded, isListed}
 use Rattle.model.specs.Sound.{Lists}
-use Rattle.laws.proofs.Number.{same?, below?}
+use Rattle.laws.proofs.Number.{same?}
 use Rattle.laws.proofs.Row.{length-turned}
 use Rattle.laws.proofs.Table.{length-row-in, length-withRow, row-withRow-same, row-withRow-other, first-row}
 use Rattle.laws.proofs.Relisted.{relisted-kept, length-relisted, row-relisted-from, row-relisted-to, row-relisted-other, row-relisted-zero}
 use Rattle.laws.proofs.Occ.{one-le, occ-left-same, occ-left-other, occ-joined-same, occ-joined-other, occ-turned, first-in}
-use Rattle.laws.proofs.Padded.{padded-left, padded-joined, padded-turned, first-none}
+use Rattle.laws.proofs.Padded.{padded-left, padded-joined, padded-turned}
 use Rattle.laws.proofs.Room.{room}
 
 -- ---- who is listed where
@@ -29,10 +28,9 @@ listed-none zero k apart = refl
 listed-none (suc l) k apart = rw (ne-eqb (suc l) 0 (λ z. omega arith), ne-eqb k (suc l) (apart (omega arith)))
 
 pub listed-by : (l k : ℕ) → 1 ≤ one (isListed l k) → (1 ≤ l) × (k ≡ l)
-listed-by l k h = ⊎-elim
-    (λ (e : k ≡ l). (⊎-elim (λ (z : l ≡ 0). absurd (omega (arith, listed-none l k (λ some _. omega arith)))) (λ (n : l ≡ 0 → ⊥). omega arith) (same? l 0), e))
-    (λ (n : k ≡ l → ⊥). absurd (omega (arith, listed-none l k (λ _ e. n e))))
-    (same? k l)
+listed-by l k h =
+    let low : l ≡ 0 → ⊥ = λ z. omega (arith, listed-none l k (λ some _. omega arith)) in
+    (omega arith, ⊎-elim (λ (e : k ≡ l). e) (λ (other : k ≡ l → ⊥). absurd (omega (arith, listed-none l k (λ _ e. other e)))) (same? k l))
 
 module _ (ls : List ℕ) (n : ℕ) (key : ℕ → ℕ) (k : Lists ls n key) where
   -- a listed task has the row's key, and a task with a key is listed
@@ -60,49 +58,34 @@ module _ (ls : List ℕ) (n : ℕ) (key : ℕ → ℕ) (k : Lists ls n key) wher
       some top none
 
 -- ---- a task leaves its row for another
--- what holds of a row as it was, of one that was left and of one that was joined, holds of each row
-row-cases : (P : List ℕ → Type 0) (ls : List ℕ) (f g t l : ℕ) → P (row ls l) → (l ≡ f → P (left (row ls f) t)) → (l ≡ g → P (joined (row ls g) t))
-    → P (row (relisted ls f g t) l)
-row-cases P ls f g t l as-was from to = ⊎-elim
-    (λ (e : f ≡ g). rw (relisted-kept ls f g t e) as-was)
-    (λ (apart : f ≡ g → ⊥). ⊎-elim
-      (λ (z : l ≡ 0). rw (z, row-relisted-zero ls f g t) (rw z at as-was))
-      (λ (some : l ≡ 0 → ⊥). ⊎-elim
-        (λ (e : l ≡ f). rw (e, row-relisted-from ls f g t apart (λ z. some (e ∙ z))) (from e))
-        (λ (not-f : l ≡ f → ⊥). ⊎-elim
-          (λ (e : l ≡ g). rw (e, row-relisted-to ls f g t apart (λ z. some (e ∙ z))) (to e))
-          (λ (not-g : l ≡ g → ⊥). rw (row-relisted-other ls f g t l not-f not-g) as-was)
-          (same? l g))
-        (same? l f))
-      (same? l 0))
-    (same? f g)
+-- what holds of a row as it was, where both keys say the same of it, of the row that was left and of the one that was joined, holds of each row
+module _ (P : List ℕ → Type 0) (ls : List ℕ) (f g t l : ℕ) where
+  row-cases : (one (isListed l f) ≡ one (isListed l g) → P (row ls l)) → ((f ≡ g → ⊥) → 1 ≤ l → l ≡ f → P (left (row ls f) t))
+      → ((f ≡ g → ⊥) → 1 ≤ l → l ≡ g → P (joined (row ls g) t)) → P (row (relisted ls f g t) l)
+  row-cases stays leaves joins = go (same? f g) (same? l 0) (same? l f) (same? l g)
+    where
+      go : (f ≡ g) ⊎ (f ≡ g → ⊥) → (l ≡ 0) ⊎ (l ≡ 0 → ⊥) → (l ≡ f) ⊎ (l ≡ f → ⊥) → (l ≡ g) ⊎ (l ≡ g → ⊥) → P (row (relisted ls f g t) l)
+      go (inl e) z a b = rw (relisted-kept ls f g t e) (stays (rw e))
+      go (inr apart) (inl z) a b = rw (z, row-relisted-zero ls f g t) (rw z at (stays (rw z)))
+      go (inr apart) (inr low) (inl e) b = rw (e, row-relisted-from ls f g t apart (λ z. low (e ∙ z))) (leaves apart (omega arith) e)
+      go (inr apart) (inr low) (inr not-f) (inl e) = rw (e, row-relisted-to ls f g t apart (λ z. low (e ∙ z))) (joins apart (omega arith) e)
+      go (inr apart) (inr low) (inr not-f) (inr not-g) =
+          rw (row-relisted-other ls f g t l not-f not-g) (stays (listed-none l f (λ _ e. not-f (sym e)) ∙ sym (listed-none l g (λ _ e. not-g (sym e)))))
 
 module _ (ls : List ℕ) (n : ℕ) (key : ℕ → ℕ) (k : Lists ls n key) (t g : ℕ) (some : 1 ≤ t) (top : t ≤ 24) (far : (u : ℕ) → 24 < u → key u ≡ 0) where
   -- where it now stands
   stands : (l : ℕ) → l < n → occ t (row (relisted ls (key t) g t) l) ≡ one (isListed l g)
-  stands l h = ⊎-elim
-      (λ (e : key t ≡ g). rw (relisted-kept ls (key t) g t e) (rw e at (k .exactly l t h some)))
-      (λ (apart : key t ≡ g → ⊥). ⊎-elim
-        (λ (z : l ≡ 0). rw (z, row-relisted-zero ls (key t) g t) (rw z at (k .exactly l t h some)))
-        (λ (low : l ≡ 0 → ⊥). ⊎-elim
-          (λ (e : l ≡ key t). rw (e, row-relisted-from ls (key t) g t apart (λ z. low (e ∙ z))) (leaves apart (omega arith) e))
-          (λ (not-f : l ≡ key t → ⊥). ⊎-elim
-            (λ (e : l ≡ g). rw (e, row-relisted-to ls (key t) g t apart (λ z. low (e ∙ z))) (joins not-f (omega arith) e))
-            (λ (not-g : l ≡ g → ⊥). rw (row-relisted-other ls (key t) g t l not-f not-g) (listed-not ls n key k l t h some (λ _ e. not-f (sym e)) ∙ sym (listed-none l g (λ _ e. not-g (sym e)))))
-            (same? l g))
-          (same? l (key t)))
-        (same? l 0))
-      (same? (key t) g)
+  stands l h = row-cases (λ q. occ t q ≡ one (isListed l g)) ls (key t) g t l (λ same. k .exactly l t h some ∙ same) leaves joins
     where
-      leaves : (key t ≡ g → ⊥) → 1 ≤ l → l ≡ key t → occ t (left (row ls (key t)) t) ≡ one (isListed (key t) g)
+      leaves : (key t ≡ g → ⊥) → 1 ≤ l → l ≡ key t → occ t (left (row ls (key t)) t) ≡ one (isListed l g)
       leaves apart low e =
           let there : occ t (row ls (key t)) ≡ 1 = listed-in ls n key k (key t) t (omega arith) some (omega arith) refl in
-          omega (arith, occ-left-same (row ls (key t)) t some (omega arith), listed-none (key t) g (λ _ z. apart (sym z)))
+          omega (arith, occ-left-same (row ls (key t)) t some (omega arith), listed-none l g (λ _ z. apart (sym e ∙ sym z)))
 
-      joins : (l ≡ key t → ⊥) → 1 ≤ l → l ≡ g → occ t (joined (row ls g) t) ≡ one (isListed g g)
-      joins not-f low e =
-          let none : occ t (row ls g) ≡ 0 = listed-not ls n key k g t (omega arith) some (λ _ z. not-f (e ∙ sym z)) in
-          omega (arith, occ-joined-same (row ls g) t some (has-room ls n key k far g t (omega arith) some top none), listed-one g g (omega arith) refl)
+      joins : (key t ≡ g → ⊥) → 1 ≤ l → l ≡ g → occ t (joined (row ls g) t) ≡ one (isListed l g)
+      joins apart low e =
+          let none : occ t (row ls g) ≡ 0 = listed-not ls n key k g t (omega arith) some (λ _ z. apart z) in
+          omega (arith, occ-joined-same (row ls g) t some (has-room ls n key k far g t (omega arith) some top none), listed-one l g low (sym e))
 
   pub lists-relisted : (key′ : ℕ → ℕ) → key′ t ≡ g → ((u : ℕ) → (u ≡ t → ⊥) → key′ u ≡ key u) → Lists (relisted ls (key t) g t) n key′
   lists-relisted key′ now others = record {
@@ -111,15 +94,15 @@ module _ (ls : List ℕ) (n : ℕ) (key : ℕ → ℕ) (k : Lists ls n key) (t g
         (λ (e : u ≡ t). rw (e, now) (stands l h))
         (λ (other : u ≡ t → ⊥). rw (others u other) (kept l u low other ∙ k .exactly l u h low))
         (same? u t);
-    ends = λ l h. row-cases (λ q. T (padded q)) ls (key t) g t l (k .ends l h)
-        (λ e. padded-left (row ls (key t)) t (rw e at (k .ends l h)))
-        (λ e. padded-joined (row ls g) t (rw e at (k .ends l h)));
+    ends = λ l h. row-cases (λ q. T (padded q)) ls (key t) g t l (λ _. k .ends l h)
+        (λ _ _ e. padded-left (row ls (key t)) t (rw e at (k .ends l h)))
+        (λ _ _ e. padded-joined (row ls g) t (rw e at (k .ends l h)));
   }
     where
       kept : (l u : ℕ) → 1 ≤ u → (u ≡ t → ⊥) → occ u (row (relisted ls (key t) g t) l) ≡ occ u (row ls l)
-      kept l u low other = row-cases (λ q. occ u q ≡ occ u (row ls l)) ls (key t) g t l refl
-          (λ e. rw e (occ-left-other (row ls (key t)) t u low other))
-          (λ e. rw e (occ-joined-other (row ls g) t u low other))
+      kept l u low other = row-cases (λ q. occ u q ≡ occ u (row ls l)) ls (key t) g t l (λ _. refl)
+          (λ _ _ e. rw e (occ-left-other (row ls (key t)) t u low other))
+          (λ _ _ e. rw e (occ-joined-other (row ls g) t u low other))
 
 -- ---- the first of a row becomes its last
 pub lists-turned : (ls : List ℕ) (n : ℕ) (key : ℕ → ℕ) (l : ℕ) → Lists ls n key → Lists (withRow ls l (turned (row ls l))) n key

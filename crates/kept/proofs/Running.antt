@@ -1,13 +1,12 @@
 -- Who runs: the first of the first row that is not empty, found row by row, and in a sound state a live task that waits for nothing.
 -- It rests on `bestFrom` of model/specs/Row and the tables' laws in Listed.
-use mathlib.Core.Path.{_≡_, refl, sym, ap, _∙_}
-use mathlib.Core.Bool.{Bool, true, false, cond}
+use mathlib.Core.Path.{_≡_, refl, sym, _∙_}
 use mathlib.Core.List.{List, [], _∷_}
 use mathlib.Core.Logic.{⊎-elim}
 use Prim.Native.Nat.{ℕ, zero, suc, _+_, _≤_, _<_}
 use native.Mathlib.Omega.{arith}
 use native.Mathlib.Nat.{eq-or-lt-of-le}
-use lib.Dec.{T, eqb}
+use lib.Dec.{T}
 use borrow.Author.Tests.{eq-eqb, ne-eqb}
 use Rattle.model.specs.declared.State.{State}
 use Rattle.model.specs.Row.{first, row, firstOf, bestFrom}

@@ -1,9 +1,9 @@
 -- Each call's plan has one of two shapes: a refusal, which changes nothing, or an accepted call, whose effect fits where the state is sound.
 -- One pass over the services of model/specs/Service says so; the theorems go by the shapes, never by the calls.
-use mathlib.Core.Path.{_≡_, refl, sym, ap, _∙_}
+use mathlib.Core.Path.{_≡_, refl, sym, _∙_}
 use mathlib.Core.Bool.{Bool, true, false, cond, not, _&&_}
 use mathlib.Core.Logic.{_⊎_, inl, inr, ⊎-elim}
-use Prim.Native.Nat.{ℕ, zero, suc, _+_, _-_, _≤_, _<_}
+use Prim.Native.Nat.{ℕ, _+_, _-_, _≤_}
 use native.Mathlib.Omega.{arith}
 use lib.Dec.{T, T-not, eqb, leb, ltb, leb→le, ltb→lt, eqb→eq}
 use borrow.Author.Tests.{eq-eqb, eqb-false}
@@ -11,19 +11,19 @@ use Rattle.model.specs.declared.Task.{Task}
 use Rattle.model.specs.declared.State.{State}
 use Rattle.model.specs.declared.Plan.{Plan}
 use Rattle.model.specs.declared.Effect.{Effect}
-use Rattle.model.specs.declared.Effect.the-variants.{Nothing, Moves, Stops, Counts, Deletes, Slices, Ticks}
+use Rattle.model.specs.declared.Effect.the-variants.{Moves, Counts}
 use Rattle.model.specs.declared.Code.{Code}
-use Rattle.model.specs.declared.Code.the-variants.{NoErr, Pending, WContext, WrongParam, NoExs}
+use Rattle.model.specs.declared.Code.the-variants.{WContext, WrongParam, NoExs}
 use Rattle.model.specs.declared.Context.{Context}
 use Rattle.model.specs.declared.Call.{Call}
 use Rattle.model.specs.declared.Call.the-variants.{TaskCreate, TaskDelete, TaskActivate, TaskIactivate, TaskExit, TaskTerminate, TaskSuspend, TaskResume, TaskSleep, TaskWakeup, TaskIwakeup, TaskReleaseWait, TaskIreleaseWait, TaskChangePriority}
 use Rattle.model.specs.declared.Call.the-variants.{SysTsliceTicks, TickIntProcessing, SemCreate, SemDelete, SemSignal, SemIsignal, SemAcquire, SemPolling, SemIpolling}
 use Rattle.model.specs.Row.{row, firstOf}
-use Rattle.model.specs.Task.{isCreated, isDormant, isSuspended, isWaiting, isAsleep, nothing, aSleep, aSemaphore, served, released, endless, rowOf}
+use Rattle.model.specs.Task.{isCreated, isDormant, isSuspended, isWaiting, isAsleep, aSleep, aSemaphore, served, released, endless, rowOf}
 use Rattle.model.specs.Task.{noTask, dormant, activated, created, withPriority, withSuspended, withWakeups, withActivations, waiting, ended}
 use Rattle.model.specs.State.{task, count, maximum, semaphore, running}
 use Rattle.model.specs.Code.{isRefusal}
-use Rattle.model.specs.Plan.{within, isTask, isPriority, isSemaphore, isMaximum, isTimeout, isSlice, isMade, does, answers, refused, need, checked}
+use Rattle.model.specs.Plan.{within, isTask, isPriority, isSemaphore, isMaximum, isTimeout, isSlice, isMade, answers, refused, need, checked}
 use Rattle.model.specs.Service.{create, delete, activate, exit, terminate, suspend, resume, sleep, wakeup, releaseWait, wanted, changePriority, tsliceTicks, tick, semCreate, semDelete, signal, acquire, polling}
 use Rattle.model.specs.Call.{inT, inI, plan, planned}
 use Rattle.model.specs.Test.{occ}
