@@ -14,22 +14,22 @@ use Rattle.model.specs.State.{fresh, task}
 use Rattle.model.specs.Test.{zeros, listsOnly, padded}
 use Rattle.model.specs.Sound.{Lists, SoundTask, Sound}
 use Rattle.laws.proofs.Number.{below?}
-use Rattle.laws.proofs.Padded.{and-both, occ-zeros}
+use Rattle.laws.proofs.Padded.{both, and-both, occ-zeros}
 use Rattle.kept.proofs.Listed.{listed-none}
-use Rattle.kept.proofs.Records.{both-of, sound-none}
+use Rattle.kept.proofs.Records.{sound-none}
 
 -- ---- a table of zeros
 zeros-drop : (n : ℕ) (q : List ℕ) → T (zeros q) → T (zeros (drop n q))
 unfolding zeros
 zeros-drop zero q h = h
 zeros-drop (suc n) [] h = tt
-zeros-drop (suc n) (x ∷ q) h = zeros-drop n q (both-of (eqb x 0) (zeros q) h .1)
+zeros-drop (suc n) (x ∷ q) h = zeros-drop n q (both (eqb x 0) (zeros q) h .1)
 
 zeros-take : (n : ℕ) (q : List ℕ) → T (zeros q) → T (zeros (take n q))
 unfolding zeros
 zeros-take zero q h = tt
 zeros-take (suc n) [] h = tt
-zeros-take (suc n) (x ∷ q) h = let r = both-of (eqb x 0) (zeros q) h in and-both (eqb x 0) (zeros (take n q)) (r .0) (zeros-take n q (r .1))
+zeros-take (suc n) (x ∷ q) h = let r = both (eqb x 0) (zeros q) h in and-both (eqb x 0) (zeros (take n q)) (r .0) (zeros-take n q (r .1))
 
 zeros-row : (ls : List ℕ) (l : ℕ) → T (zeros ls) → T (zeros (row ls l))
 unfolding row
@@ -38,7 +38,7 @@ zeros-row ls l h = zeros-take 24 (drop (l * 24) ls) (zeros-drop (l * 24) ls h)
 zeros-padded : (q : List ℕ) → T (zeros q) → T (padded q)
 unfolding zeros listsOnly
 zeros-padded [] h = tt
-zeros-padded (x ∷ q) h = let r = both-of (eqb x 0) (zeros q) h in rw (eq-eqb x 0 (eqb→eq x 0 (r .0))) (r .1)
+zeros-padded (x ∷ q) h = let r = both (eqb x 0) (zeros q) h in rw (eq-eqb x 0 (eqb→eq x 0 (r .0))) (r .1)
 
 lists-nobody : (ls : List ℕ) (n : ℕ) (key : ℕ → ℕ) → length ls ≡ n * 24 → T (zeros ls) → ((t : ℕ) → key t ≡ 0) → Lists ls n key
 lists-nobody ls n key e z free = record {

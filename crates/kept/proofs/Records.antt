@@ -12,12 +12,9 @@ use Rattle.model.specs.Task.{nothing, aSleep, aSemaphore, isDormant, isSuspende
 use Rattle.model.specs.Task.{noTask, dormant, activated, created, withPriority, withSuspended, withWakeups, withActivations, withRemaining, waiting, ended}
 use Rattle.model.specs.Test.{isWaitCode}
 use Rattle.model.specs.Sound.{SoundTask}
+use Rattle.laws.proofs.Padded.{both}
 
 -- ---- tests
-pub both-of : (a b : Bool) → T (a && b) → T a × T b
-both-of true b h = (tt, h)
-both-of false b h = absurd h
-
 pub some-of : (n : ℕ) → T (not (eqb n 0)) → 1 ≤ n
 some-of zero h = absurd h
 some-of (suc n) h = omega arith
@@ -43,11 +40,11 @@ module _ (x : Task) (k : SoundTask x) where
 -- ---- what its keys say
 pub level-live : (x : Task) → 1 ≤ levelOf x → (1 ≤ x .active) × (x .wait ≡ nothing)
 unfolding levelOf
-level-live x h = go (isRunnable x) h (both-of (not (isDormant x)) (not (isSuspended x) && not (isWaiting x)))
+level-live x h = go (isRunnable x) h (both (not (isDormant x)) (not (isSuspended x) && not (isWaiting x)))
   where
     go : (b : Bool) → 1 ≤ cond b (x .priority) 0 → (T b → T (not (isDormant x)) × T (not (isSuspended x) && not (isWaiting x)))
         → (1 ≤ x .active) × (x .wait ≡ nothing)
-    go true h r = (some-of (x .active) (r tt .0), none-of (x .wait) (both-of (not (isSuspended x)) (not (isWaiting x)) (r tt .1) .1))
+    go true h r = (some-of (x .active) (r tt .0), none-of (x .wait) (both (not (isSuspended x)) (not (isWaiting x)) (r tt .1) .1))
     go false h r = absurd (omega arith)
 
 pub row-waits : (x : Task) → 1 ≤ rowOf x → x .wait ≡ aSemaphore
@@ -205,7 +202,7 @@ code-out x = go (isAsleep x)
 
 pub sound-aged : (x : Task) → SoundTask x → SoundTask (aged x)
 unfolding aged
-sound-aged x k = go (isTimed x) (eqb (x .remaining) 1) (λ h. both-of (not (eqb (x .remaining) 0)) (not (eqb (x .remaining) endless)) h .0) refl
+sound-aged x k = go (isTimed x) (eqb (x .remaining) 1) (λ h. both (not (eqb (x .remaining) 0)) (not (eqb (x .remaining) endless)) h .0) refl
   where
     -- who has ticks left waits
     waits : 1 ≤ x .remaining → x .wait ≡ nothing → ⊥

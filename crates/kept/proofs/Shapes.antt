@@ -29,9 +29,9 @@ use Rattle.model.specs.Call.{inT, inI, plan, planned}
 use Rattle.model.specs.Test.{occ}
 use Rattle.model.specs.Sound.{SoundTask, Sound}
 use Rattle.laws.proofs.Table.{first-row}
-use Rattle.laws.proofs.Padded.{first-none}
+use Rattle.laws.proofs.Padded.{both, first-none}
 use Rattle.kept.proofs.Listed.{key-first, listed-in}
-use Rattle.kept.proofs.Records.{both-of, some-of, none-of, live-made, suspended-live, waiting-live, row-live, sound-none, sound-created, sound-activated, sound-withPriority, sound-withSuspended, sound-withWakeups, sound-withActivations, sound-ended, sound-asleep, sound-queued}
+use Rattle.kept.proofs.Records.{some-of, none-of, live-made, suspended-live, waiting-live, row-live, sound-none, sound-created, sound-activated, sound-withPriority, sound-withSuspended, sound-withWakeups, sound-withActivations, sound-ended, sound-asleep, sound-queued}
 use Rattle.kept.proofs.Effects.{Fit, none, moves, stops, counts, deletes, slices, ticks, may-none, may-same, waiter-in}
 use Rattle.kept.proofs.Running.{Runner, runner}
 
@@ -42,7 +42,7 @@ pub data Shape (s : State) : Plan → Type 0 where
 -- ---- the tests of a plan
 range : (low n top : ℕ) → T (within low n top) → (low ≤ n) × (n ≤ top)
 unfolding within
-range low n top h = let r = both-of (leb low n) (leb n top) h in (leb→le low n (r .0), leb→le n top (r .1))
+range low n top h = let r = both (leb low n) (leb n top) h in (leb→le low n (r .0), leb→le n top (r .1))
 
 module _ {s : State} where
   needs : (b : Bool) (c : Code) (p : Plan) → T (isRefusal c) → (T b → Shape s p) → Shape s (need b c p)
@@ -97,8 +97,8 @@ module _ (s : State) where
   shape-create : (mine : Bool) (t p o : ℕ) → Shape s (create mine t p o (task s t))
   unfolding create
   shape-create mine t p o = checks (isTask t && (isPriority p && (leb o 1 && not (isCreated (task s t))))) true mine _ (λ h _.
-      let a = both-of (isTask t) (isPriority p && (leb o 1 && not (isCreated (task s t)))) h in
-      let r = range 1 p 30 (both-of (isPriority p) (leb o 1 && not (isCreated (task s t))) (a .1) .0) in
+      let a = both (isTask t) (isPriority p && (leb o 1 && not (isCreated (task s t)))) h in
+      let r = range 1 p 30 (both (isPriority p) (leb o 1 && not (isCreated (task s t))) (a .1) .0) in
       accepts _ _ tt (changes t (a .0) (created p o) (inl (created-row p o)) (λ _. sound-created p o (r .0) (r .1))))
 
   shape-delete : (mine : Bool) (t : ℕ) → Shape s (delete mine t (task s t))
@@ -157,7 +157,7 @@ module _ (s : State) where
   unfolding changePriority rowOf
   shape-changePriority mine t p = checks (isTask t && leb p 30) (isCreated (task s t)) mine _ (λ h made. needs (not (isDormant (task s t))) _ _ tt (λ live.
       picks (eqb (wanted p (task s t)) (task s t .priority)) _ _ (λ _. accepts _ _ tt (λ k. none))
-      (λ _. let a = both-of (isTask t) (leb p 30) h in accepts _ _ tt (changes t (a .0) (withPriority (task s t) (wanted p (task s t))) (inr refl)
+      (λ _. let a = both (isTask t) (leb p 30) h in accepts _ _ tt (changes t (a .0) (withPriority (task s t) (wanted p (task s t))) (inr refl)
       (λ y. let r = wanted-range p (task s t) (some-of (task s t .base) made) (y .base) (leb→le p 30 (a .1)) in
       sound-withPriority (task s t) y (some-of (task s t .active) live) (wanted p (task s t)) (r .0) (r .1))))))
 
@@ -165,7 +165,7 @@ module _ (s : State) where
   shape-tsliceTicks : (mine : Bool) (l v : ℕ) → Shape s (tsliceTicks mine l v)
   unfolding tsliceTicks
   shape-tsliceTicks mine l v = checks (isPriority l && isSlice v) true mine _ (λ h _.
-      let a = both-of (isPriority l) (isSlice v) h in accepts _ _ tt (λ k. slices l v (range 1 l 30 (a .0) .0) (leb→le v 1000 (a .1))))
+      let a = both (isPriority l) (isSlice v) h in accepts _ _ tt (λ k. slices l v (range 1 l 30 (a .0) .0) (leb→le v 1000 (a .1))))
 
   shape-tick : (mine : Bool) → Shape s (tick mine)
   unfolding tick
@@ -175,9 +175,9 @@ module _ (s : State) where
   shape-semCreate : (mine : Bool) (m n v : ℕ) → Shape s (semCreate mine m n v (semaphore s m))
   unfolding semCreate
   shape-semCreate mine m n v = checks (isSemaphore m && (isMaximum v && (leb n v && not (isMade (semaphore s m))))) true mine _ (λ h _.
-      let a = both-of (isSemaphore m) (isMaximum v && (leb n v && not (isMade (semaphore s m)))) h in
-      let b = both-of (isMaximum v) (leb n v && not (isMade (semaphore s m))) (a .1) in
-      let c = both-of (leb n v) (not (isMade (semaphore s m))) (b .1) in
+      let a = both (isSemaphore m) (isMaximum v && (leb n v && not (isMade (semaphore s m)))) h in
+      let b = both (isMaximum v) (leb n v && not (isMade (semaphore s m))) (a .1) in
+      let c = both (leb n v) (not (isMade (semaphore s m))) (b .1) in
       let i = range 1 m 12 (a .0) in
       accepts _ _ tt (λ k. counts m n v (i .0) (leb→le n v (c .0)) (range 1 v 65535 (b .0) .1)
       (λ t e. omega (arith, k .waited m t (i .0) e .1, none-of (maximum s m) (c .1)))))
@@ -205,7 +205,7 @@ module _ (s : State) where
 
   shape-acquire : (mine : Bool) (m d : ℕ) → Shape s (acquire mine m d (running s) (task s (running s)) (semaphore s m))
   unfolding acquire rowOf
-  shape-acquire mine m d = let t = running s in checks (isSemaphore m && isTimeout d) (isMade (semaphore s m)) mine _ (λ h made. let a = both-of (isSemaphore m) (isTimeout d) h in
+  shape-acquire mine m d = let t = running s in checks (isSemaphore m && isTimeout d) (isMade (semaphore s m)) mine _ (λ h made. let a = both (isSemaphore m) (isTimeout d) h in
       needs (not (eqb t 0)) _ _ tt (λ some. picks (eqb (count s m) 0) _ _
       (λ e. accepts _ _ tt (λ k. let r = runs some k in let i = range 1 m 12 (a .0) in
       moves t (waiting (task s t) aSemaphore m d) (r .low) (r .top) (sound-queued (task s t) (k .tasks t) (r .live) m d (i .0) (i .1) (range 1 d endless (a .1) .0))
