@@ -1,0 +1,4 @@
+pub mod Says
+pub mod Records
+pub mod Listed
+pub mod Same
