@@ -1,23 +1,23 @@
 -- The test of a table of queues says that its rows list exactly the tasks with their keys, once each.
 -- Rests on Says and on the laws of rows.
-use mathlib.Core.Path.{_≡_, refl, sym, ap, _∙_, subst}
-use mathlib.Core.Bool.{Bool, true, false, cond, not, _&&_}
+use mathlib.Core.Path.{_≡_, refl, sym, _∙_, subst}
+use mathlib.Core.Bool.{Bool, true, false}
 use mathlib.Core.List.{List, [], _∷_}
 use mathlib.Core.Logic.{_⊎_, inl, inr, ⊎-elim}
 use Prim.Native.Nat.{ℕ, zero, suc, _+_, _*_, _≤_, _<_}
 use native.Mathlib.Omega.{arith}
-use lib.Dec.{T, eqb}
+use lib.Dec.{T}
 use lib.ListN.{length, take, drop}
 use lib.Seq.{drop-drop}
 use borrow.Author.Tests.{eq-eqb, ne-eqb}
-use Rattle.model.specs.Row.{first, row, firstOf}
-use Rattle.model.specs.Test.{one, below, everyRow, occ, zeros, listsOnly, padded, isListed, isFiled, listsExactly}
+use Rattle.model.specs.Row.{row, firstOf}
+use Rattle.model.specs.Test.{one, everyRow, occ, listsOnly, padded, isListed, isFiled, listsExactly}
 use Rattle.model.specs.Sound.{Lists}
 use Rattle.laws.proofs.Number.{same?, below?}
-use Rattle.laws.proofs.Occ.{one-eq, one-ne, occ-cons, first-in}
+use Rattle.laws.proofs.Occ.{one-eq, one-ne, first-in}
 use Rattle.laws.proofs.Padded.{occ-zeros, first-none}
 use Rattle.laws.proofs.Table.{first-row}
-use Rattle.tested.proofs.Says.{Says, says-as, says-same, says-eq, says-not, says-and, says-or, says-cond, says-below, everywhere}
+use Rattle.tested.proofs.Says.{Says, says-as, says-eq, says-not, says-and, says-or, says-below}
 
 -- ---- one row
 -- whoever stands there passes, and places past the end hold 0
@@ -61,8 +61,10 @@ module _ (f : ℕ → List ℕ → Bool) (P : ℕ → List ℕ → Type 0) (h : 
   says-rows zero l ls = record { yields = λ _ i k. absurd (omega arith); tests = λ _. tt }
   says-rows (suc n) l ls = says-as
       joins
-      (λ p. (moved (l + 0) l (row ls 0) (take 24 ls) (omega arith) (row-first ls) (p 0 (omega arith)),
-      λ i k. moved (l + suc i) (suc l + i) (row ls (suc i)) (row (drop 24 ls) i) (omega arith) (sym (row-behind ls i)) (p (suc i) (omega arith))))
+      (λ p. (
+        moved (l + 0) l (row ls 0) (take 24 ls) (omega arith) (row-first ls) (p 0 (omega arith)),
+        λ i k. moved (l + suc i) (suc l + i) (row ls (suc i)) (row (drop 24 ls) i) (omega arith) (sym (row-behind ls i)) (p (suc i) (omega arith)),
+      ))
       (says-and (h l (take 24 ls)) (says-rows n (suc l) (drop 24 ls)))
     where
       joins : P l (take 24 ls) × ((i : ℕ) → i < n → P (suc l + i) (row (drop 24 ls) i)) → (i : ℕ) → i < suc n → P (l + i) (row ls i)
@@ -76,7 +78,7 @@ module _ (f : ℕ → List ℕ → Bool) (P : ℕ → List ℕ → Type 0) (h : 
       (says-rows n 0 ls)
 
 -- ---- row l is where a task with this key is listed
-abbrev Listed : ℕ → ℕ → Type 0
+abbrev pub Listed : ℕ → ℕ → Type 0
 Listed l key = (l ≡ 0 → ⊥) × (key ≡ l)
 
 says-listed : (l key : ℕ) → Says (isListed l key) (Listed l key)

@@ -1,6 +1,6 @@
 -- The test of one task's record says that the record is sound; and a sound record's queues are rows of the tables.
 -- Rests on Says.
-use mathlib.Core.Path.{_≡_, refl, sym, ap, _∙_, subst}
+use mathlib.Core.Path.{_≡_, refl, sym, ap, subst}
 use mathlib.Core.Bool.{Bool, true, false, cond}
 use mathlib.Core.Logic.{_⊎_, inl, inr, ⊎-elim}
 use Prim.Native.Nat.{ℕ, _≤_}
@@ -20,7 +20,7 @@ blank : (base priority active suspended wait object wakeups activations code rem
     → _≡_ {A = Task} (record { base = base; priority = priority; active = active; suspended = suspended; wait = wait; object = object; wakeups = wakeups; activations = activations; code = code; remaining = remaining }) noTask
 blank b p a s w o u v c r eb ep ea es ew eo eu ev ec er = cc
 
-says-blank : (x : Task) → Says (isBlank x) (x ≡ noTask)
+pub says-blank : (x : Task) → Says (isBlank x) (x ≡ noTask)
 says-blank x = record {
   yields = λ t. let p = zeros .yields t in let q = p .1 .1 .1 .1 .1 in
       blank (x .base) (x .priority) (x .active) (x .suspended) (x .wait) (x .object) (x .wakeups) (x .activations) (x .code) (x .remaining)
@@ -61,10 +61,16 @@ says-wait x = says-as
     })
     (λ h. (
       λ e. (h .free e .1, h .free e .0),
-      λ n. (h .waiting n .0, (h .waiting n .1, (
-        λ e. (h .sleeper e .1, h .sleeper e .0),
-        λ d. let e : x .wait ≡ aSemaphore = ⊎-elim (λ k. absurd (n k)) (λ k. ⊎-elim (λ j. absurd (d j)) (λ j. j) k) (h .wait) in (e, h .object e),
-      ))),
+      λ n. (
+        h .waiting n .0,
+        (
+          h .waiting n .1,
+          (
+            λ e. (h .sleeper e .1, h .sleeper e .0),
+            λ d. let e : x .wait ≡ aSemaphore = ⊎-elim (λ k. absurd (n k)) (λ k. ⊎-elim (λ j. absurd (d j)) (λ j. j) k) (h .wait) in (e, h .object e),
+          ),
+        ),
+      ),
     ))
     (says-cond says-eq (says-and says-eq says-eq) (says-and says-le (says-and says-eq (says-cond says-eq (says-and says-eq says-eq) (says-and says-eq says-within)))))
 
