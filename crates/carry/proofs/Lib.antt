@@ -1,0 +1,4 @@
+pub mod Local
+pub mod Steps
+pub mod Copied
+pub mod Arms

@@ -1,0 +1,156 @@
+// What an effect does to the tables it changes, each lent or handed over by itself: a move in the queues, a charged tick,
+// the timeouts of a tick, the end of a deleted semaphore's waits. It rests on the rows and the records.
+ghost use mathlib.Core.Path.{_≡_};
+ghost use lib.ListN.{getD, set};
+ghost use Rattle.model.specs.Row.{relisted};
+ghost use Rattle.model.specs.Task.{noTask, levelOf, rowOf, ranOut};
+ghost use Rattle.model.specs.Effect.{chargedLevel, lapsed, endedAll};
+ghost use Rattle.effects.specs.Parts.{listed, rated, semaphoreIn};
+use model::Semaphore;
+use model::Task;
+
+// ---- tables of numbers and records: a number that names nothing reads as zeros, and a store there changes nothing
+pub fn number_at(ns: &[u16], i: usize) -> u16
+    ensures { λ r. ⌜ r ≡ getD (now (ns .entry)) i 0 ⌝ }
+{
+    if i < ns.len() {
+        return ns[i];
+    }
+    0
+}
+
+pub fn put_number(ns: &mut [u16], i: usize, v: u16)
+    ensures { λ r. ⌜ now (ns .exit) ≡ set (now (ns .entry)) i v ⌝ }
+{
+    if ns.len() <= i {
+        return;
+    }
+    ns[i] = v;
+}
+
+pub fn task_at(tasks: [Task; 25], t: usize) -> Task
+    ensures { λ r. ⌜ r ≡ getD tasks t noTask ⌝ }
+{
+    if t < 25 {
+        return tasks[t];
+    }
+    records::no_task()
+}
+
+// The semaphore that a call names.
+pub fn semaphore_at(counts: &[u16], maxima: &[u16], waits: &[u8], m: usize) -> Semaphore
+    ensures { λ r. ⌜ r ≡ semaphoreIn (now (counts .entry)) (now (maxima .entry)) (now (waits .entry)) m ⌝ }
+{
+    Semaphore {
+        count: number_at(counts, m),
+        maximum: number_at(maxima, m),
+        first: rows::first_of(waits, m),
+    }
+}
+
+// ---- a task's place in the queues, as its record k becomes x
+pub fn requeue(levels: &mut [u8], waits: &mut [u8], t: u8, k: Task, x: Task)
+    ensures { λ r. ⌜ (now (levels .exit) ≡ relisted (now (levels .entry)) (levelOf k) (levelOf x) t) × (now (waits .exit) ≡ relisted (now (waits .entry)) (rowOf k) (rowOf x) t) ⌝ }
+{
+    rows::relist(
+        levels,
+        records::level_of(k) as usize,
+        records::level_of(x) as usize,
+        t,
+    );
+    rows::relist(
+        waits,
+        records::row_of(k) as usize,
+        records::row_of(x) as usize,
+        t,
+    );
+}
+
+// ---- one charged tick of a level
+fn wide(x: u16) -> u32
+    ensures { λ r. ⌜ r ≡ x ⌝ }
+{
+    x as u32
+}
+
+pub fn charge(levels: &mut [u8], slices: &[u16], charges: &mut [u16], l: usize)
+    ensures { λ r. ⌜ rated (now (levels .exit)) (now (slices .entry)) (now (charges .exit)) ≡ chargedLevel l (rated (now (levels .entry)) (now (slices .entry)) (now (charges .entry))) ⌝ }
+{
+    let slice = number_at(slices, l);
+    let next = wide(number_at(charges, l)) + 1;
+    if slice == 0 {
+        return;
+    }
+    if next < wide(slice) {
+        put_number(charges, l, next as u16);
+        return;
+    }
+    put_number(charges, l, 0);
+    rows::turn_row(levels, l);
+}
+
+// ---- the timeouts of a tick
+// How a wait that runs out ends: a sleep with 0, any other with TIMEOUT.
+pub fn ran_out(x: Task) -> u8
+    ensures { λ r. ⌜ r ≡ ranOut x ⌝ }
+{
+    let wait = x.wait;
+    if wait == 1 {
+        return 0;
+    }
+    4
+}
+
+// Tasks 1 to 24 in ascending number: each finite timeout falls by 1, and those reaching 0 end.
+pub fn lapse(tasks: [Task; 25], levels: &mut [u8], waits: &mut [u8]) -> [Task; 25]
+    ensures { λ r. ⌜ listed r (now (levels .exit)) (now (waits .exit)) ≡ lapsed 24 1 (listed tasks (now (levels .entry)) (now (waits .entry))) ⌝ }
+{
+    let mut r = tasks;
+    let mut t: usize = 1;
+    while t < 25 {
+        let n = r[t].remaining;
+        if n == 0 {
+            t = t + 1;
+            continue;
+        }
+        if n == records::ENDLESS {
+            t = t + 1;
+            continue;
+        }
+        if n != 1 {
+            r[t].remaining = n - 1;
+            t = t + 1;
+            continue;
+        }
+        let k = r[t];
+        let x = records::ended(k, ran_out(k));
+        requeue(levels, waits, t as u8, k, x);
+        r[t] = x;
+        t = t + 1;
+    }
+    r
+}
+
+// ---- a deleted semaphore's waiters, in queue order
+pub fn end_all(tasks: [Task; 25], levels: &mut [u8], waits: &mut [u8], q: [u8; 24]) -> [Task; 25]
+    ensures { λ r. ⌜ listed r (now (levels .exit)) (now (waits .exit)) ≡ endedAll q (listed tasks (now (levels .entry)) (now (waits .entry))) ⌝ }
+{
+    let mut r = tasks;
+    let mut i: usize = 0;
+    while i < 24 {
+        let t = q[i];
+        if t == 0 {
+            return r;
+        }
+        let k = task_at(r, t as usize);
+        let x = records::ended(k, 10);
+        requeue(levels, waits, t, k, x);
+        if 25 <= t {
+            i = i + 1;
+            continue;
+        }
+        r[t as usize] = x;
+        i = i + 1;
+    }
+    r
+}

@@ -1,0 +1,56 @@
+// Every call: the plan from the records it looks at, then its effect on the tables. The step stands once, over lent tables,
+// for a caller that knows its state to be sound; `call` takes and gives a state by value, and tests it first.
+ghost use mathlib.Core.Path.{_≡_};
+ghost use Rattle.model.specs.Call.{step};
+ghost use Rattle.effects.specs.Parts.{stateOf};
+ghost use Rattle.kernel.specs.Answer.{answerOf};
+
+use model::Answer;
+use model::Call;
+use model::Code;
+use model::Context;
+use model::State;
+use model::Task;
+
+// What a step answers, beside the tables it was lent.
+pub struct Stepped {
+    pub code: Code,
+    pub running: u8,
+    pub tasks: [Task; 25],
+}
+
+pub fn step_in(tasks: [Task; 25], levels: &mut [u8], waits: &mut [u8], slices: &mut [u16], charges: &mut [u16], counts: &mut [u16], maxima: &mut [u16], time: &mut u32, c: Context, a: Call) -> Stepped
+    ensures { λ r. ⌜ answerOf r (stateOf (r .tasks) (now (levels .exit)) (now (waits .exit)) (now (slices .exit)) (now (charges .exit)) (now (counts .exit)) (now (maxima .exit)) (now (time .exit))) ≡ step (stateOf tasks (now (levels .entry)) (now (waits .entry)) (now (slices .entry)) (now (charges .entry)) (now (counts .entry)) (now (maxima .entry)) (now (time .entry))) c a ⌝ }
+{
+    let run = rows::best(levels);
+    let x = effects::semaphore_at(counts, maxima, waits, plans::named(a));
+    let k = effects::task_at(tasks, plans::subject(a, run, x.first));
+    let p = plans::plan(c, a, run, k, x);
+    let code = p.code;
+    let effect = p.effect;
+    let next = carry::carry(tasks, levels, waits, slices, charges, counts, maxima, time, effect);
+    let running = rows::best(levels);
+    Stepped { code, running, tasks: next }
+}
+
+// The step of a whole state.
+pub fn step(s: State, c: Context, a: Call) -> Answer
+    ensures { λ r. ⌜ r ≡ step s c a ⌝ }
+{
+    let tasks = s.tasks;
+    let mut levels = s.levels;
+    let mut waits = s.waits;
+    let mut slices = s.slices;
+    let mut charges = s.charges;
+    let mut counts = s.counts;
+    let mut maxima = s.maxima;
+    let mut time = s.time;
+    let r = step_in(tasks, &mut levels, &mut waits, &mut slices, &mut charges, &mut counts, &mut maxima, &mut time, c, a);
+    let next = r.tasks;
+    let code = r.code;
+    Answer {
+        code,
+        running: r.running,
+        state: State { tasks: next, levels, waits, slices, charges, counts, maxima, time },
+    }
+}
