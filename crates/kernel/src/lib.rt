@@ -1,10 +1,9 @@
 // Every call: the plan from the records it looks at, then its effect on the tables. The step stands once, over lent tables,
 // for a caller that knows its state to be sound; `call` takes and gives a state by value, and tests it first.
 ghost use mathlib.Core.Path.{_≡_};
-ghost use Rattle.model.specs.Call.{step};
+ghost use Rattle.model.specs.Call.{step, call};
 ghost use Rattle.effects.specs.Parts.{stateOf};
 ghost use Rattle.kernel.specs.Answer.{answerOf};
-
 use model::Answer;
 use model::Call;
 use model::Code;
@@ -19,7 +18,18 @@ pub struct Stepped {
     pub tasks: [Task; 25],
 }
 
-pub fn step_in(tasks: [Task; 25], levels: &mut [u8], waits: &mut [u8], slices: &mut [u16], charges: &mut [u16], counts: &mut [u16], maxima: &mut [u16], time: &mut u32, c: Context, a: Call) -> Stepped
+pub fn step_in(
+    tasks: [Task; 25],
+    levels: &mut [u8],
+    waits: &mut [u8],
+    slices: &mut [u16],
+    charges: &mut [u16],
+    counts: &mut [u16],
+    maxima: &mut [u16],
+    time: &mut u32,
+    c: Context,
+    a: Call,
+) -> Stepped
     ensures { λ r. ⌜ answerOf r (stateOf (r .tasks) (now (levels .exit)) (now (waits .exit)) (now (slices .exit)) (now (charges .exit)) (now (counts .exit)) (now (maxima .exit)) (now (time .exit))) ≡ step (stateOf tasks (now (levels .entry)) (now (waits .entry)) (now (slices .entry)) (now (charges .entry)) (now (counts .entry)) (now (maxima .entry)) (now (time .entry))) c a ⌝ }
 {
     let run = rows::best(levels);
@@ -28,9 +38,23 @@ pub fn step_in(tasks: [Task; 25], levels: &mut [u8], waits: &mut [u8], slices: &
     let p = plans::plan(c, a, run, k, x);
     let code = p.code;
     let effect = p.effect;
-    let next = carry::carry(tasks, levels, waits, slices, charges, counts, maxima, time, effect);
+    let next = carry::carry(
+        tasks,
+        levels,
+        waits,
+        slices,
+        charges,
+        counts,
+        maxima,
+        time,
+        effect,
+    );
     let running = rows::best(levels);
-    Stepped { code, running, tasks: next }
+    Stepped {
+        code,
+        running,
+        tasks: next,
+    }
 }
 
 // The step of a whole state.
@@ -45,12 +69,47 @@ pub fn step(s: State, c: Context, a: Call) -> Answer
     let mut counts = s.counts;
     let mut maxima = s.maxima;
     let mut time = s.time;
-    let r = step_in(tasks, &mut levels, &mut waits, &mut slices, &mut charges, &mut counts, &mut maxima, &mut time, c, a);
+    let r = step_in(
+        tasks,
+        &mut levels,
+        &mut waits,
+        &mut slices,
+        &mut charges,
+        &mut counts,
+        &mut maxima,
+        &mut time,
+        c,
+        a,
+    );
     let next = r.tasks;
     let code = r.code;
     Answer {
         code,
         running: r.running,
-        state: State { tasks: next, levels, waits, slices, charges, counts, maxima, time },
+        state: State {
+            tasks: next,
+            levels,
+            waits,
+            slices,
+            charges,
+            counts,
+            maxima,
+            time,
+        },
+    }
+}
+
+// Any state: one that is not sound gets UNSOUND and task 0, and comes back as it was.
+pub fn call(s: State, c: Context, a: Call) -> Answer
+    ensures { λ r. ⌜ r ≡ call s c a ⌝ }
+{
+    let sound = sound::is_sound(s);
+    if sound {
+        return step(s, c, a);
+    }
+    Answer {
+        code: Code::Unsound,
+        running: 0,
+        state: s,
     }
 }
