@@ -1,6 +1,7 @@
 // Every call: the plan from the records it looks at, then its effect on the tables. The step stands once, over lent tables,
 // for a caller that knows its state to be sound; `call` takes and gives a state by value, and tests it first.
 ghost use mathlib.Core.Path.{_≡_};
+ghost use Rattle.model.specs.State.{fresh};
 ghost use Rattle.model.specs.Call.{step, call};
 ghost use Rattle.effects.specs.Parts.{stateOf};
 ghost use Rattle.kernel.specs.Answer.{answerOf};
@@ -10,6 +11,23 @@ use model::Code;
 use model::Context;
 use model::State;
 use model::Task;
+
+// Nothing created, time 0 and no slices.
+pub fn fresh() -> State
+    ensures { λ r. ⌜ r ≡ fresh ⌝ }
+{
+    let none = records::no_task();
+    State {
+        tasks: [none; 25],
+        levels: [0u8; 744],
+        waits: [0u8; 312],
+        slices: [0u16; 31],
+        charges: [0u16; 31],
+        counts: [0u16; 13],
+        maxima: [0u16; 13],
+        time: 0,
+    }
+}
 
 // What a step answers, beside the tables it was lent.
 pub struct Stepped {
