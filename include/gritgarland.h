@@ -1,0 +1,110 @@
+/* Gritgarland: TNKernel's scheduling decisions as a proved library. Link with libgritgarland.a.
+   A call takes a state and gives the next one; what each call answers is in docs/SERVICES.md. */
+#ifndef GRITGARLAND_H
+#define GRITGARLAND_H
+
+#include <stdbool.h>
+#include <stddef.h>
+#include <stdint.h>
+
+#ifdef __cplusplus
+extern "C" {
+#endif
+
+/* ---- the state: plain unsigned numbers; place 0 of every table is unused. All zeros is the fresh state. */
+enum {
+    GRITGARLAND_TASKS = 24,
+    GRITGARLAND_LEVELS = 30,
+    GRITGARLAND_SEMAPHORES = 12,
+    GRITGARLAND_PLACES = 24 /* of each queue: task numbers, first to last, then zeros */
+};
+
+#define GRITGARLAND_ENDLESS UINT32_C(4294967295) /* the timeout that never ends */
+
+typedef struct gritgarland_task {
+    uint8_t base;        /* the priority at creation; 0: not created */
+    uint8_t priority;    /* the current one */
+    uint8_t active;      /* 0: dormant, or not created */
+    uint8_t suspended;   /* 1: suspended */
+    uint8_t wait;        /* 0 for nothing, 1 a sleep, 2 a semaphore */
+    uint8_t object;      /* the semaphore that is waited on, else 0 */
+    uint8_t wakeups;     /* wakeup count */
+    uint8_t activations; /* activation count */
+    uint8_t code;        /* wait code without its sign: 0, 4, 10 or 11 */
+    uint32_t remaining;  /* ticks until the timeout */
+} gritgarland_task;
+
+typedef struct gritgarland_state {
+    gritgarland_task tasks[25];
+    uint8_t levels[31][24]; /* the runnable tasks of each level */
+    uint8_t waits[13][24];  /* the tasks that wait on each semaphore */
+    uint16_t slices[31];
+    uint16_t charges[31];
+    uint16_t counts[13];
+    uint16_t maxima[13]; /* 0: the semaphore is not created */
+    uint32_t time;
+} gritgarland_state;
+
+typedef struct gritgarland_reply {
+    int32_t code;     /* a GRITGARLAND_ code below */
+    uint32_t running; /* the task that runs after the call; 0: none */
+    gritgarland_state state;
+} gritgarland_reply;
+
+/* ---- contexts */
+enum { GRITGARLAND_T = 0, /* the running task, or start-up code */ GRITGARLAND_I = 1 /* an interrupt */ };
+
+/* ---- services, with the numbers they take as a, b, c; a number not taken is not looked at */
+enum {
+    GRITGARLAND_TASK_CREATE = 1,           /* task, priority, option */
+    GRITGARLAND_TASK_DELETE = 2,           /* task */
+    GRITGARLAND_TASK_ACTIVATE = 3,         /* task */
+    GRITGARLAND_TASK_IACTIVATE = 4,        /* task */
+    GRITGARLAND_TASK_EXIT = 5,
+    GRITGARLAND_TASK_TERMINATE = 6,        /* task */
+    GRITGARLAND_TASK_SUSPEND = 7,          /* task */
+    GRITGARLAND_TASK_RESUME = 8,           /* task */
+    GRITGARLAND_TASK_SLEEP = 9,            /* timeout */
+    GRITGARLAND_TASK_WAKEUP = 10,          /* task */
+    GRITGARLAND_TASK_IWAKEUP = 11,         /* task */
+    GRITGARLAND_TASK_RELEASE_WAIT = 12,    /* task */
+    GRITGARLAND_TASK_IRELEASE_WAIT = 13,   /* task */
+    GRITGARLAND_TASK_CHANGE_PRIORITY = 14, /* task, priority */
+    GRITGARLAND_SYS_TSLICE_TICKS = 15,     /* level, slice */
+    GRITGARLAND_TICK_INT_PROCESSING = 16,
+    GRITGARLAND_SEM_CREATE = 17,           /* semaphore, start, maximum */
+    GRITGARLAND_SEM_DELETE = 18,           /* semaphore */
+    GRITGARLAND_SEM_SIGNAL = 19,           /* semaphore */
+    GRITGARLAND_SEM_ISIGNAL = 20,          /* semaphore */
+    GRITGARLAND_SEM_ACQUIRE = 21,          /* semaphore, timeout */
+    GRITGARLAND_SEM_POLLING = 22,          /* semaphore */
+    GRITGARLAND_SEM_IPOLLING = 23          /* semaphore */
+};
+
+/* ---- codes; a negative one refuses, and the state comes back unchanged */
+enum {
+    GRITGARLAND_NO_ERR = 0,
+    GRITGARLAND_PENDING = 1,
+    GRITGARLAND_OVERFLOW = -1,
+    GRITGARLAND_WCONTEXT = -2,
+    GRITGARLAND_WSTATE = -3,
+    GRITGARLAND_TIMEOUT = -4,
+    GRITGARLAND_WRONG_PARAM = -5,
+    GRITGARLAND_NOEXS = -9,
+    GRITGARLAND_DLT = -10,
+    GRITGARLAND_RELEASED = -11,
+    GRITGARLAND_UNSOUND = -12
+};
+
+/* One call on any state. A state that breaks a rule gets GRITGARLAND_UNSOUND and task 0; a context or service number that
+   names nothing gets GRITGARLAND_WRONG_PARAM. */
+gritgarland_reply gritgarland_call(gritgarland_state state, uint32_t context, uint32_t service, uint32_t a, uint32_t b, uint32_t c);
+
+/* Does a state keep every rule of a sound state? */
+bool gritgarland_is_sound(gritgarland_state state);
+
+#ifdef __cplusplus
+}
+#endif
+
+#endif
