@@ -1,9 +1,7 @@
 /* The kernel from C: create, wait, tick, release, refusals, an unsound state. Every byte of each next state is looked at
    where the call must leave it alone. */
 #include "gritgarland.h"
-
-#include <stdio.h>
-#include <string.h>
+#include "libc.h"
 
 _Static_assert(sizeof(gritgarland_task) == 16, "a task's record");
 _Static_assert(sizeof(gritgarland_state) == 1636, "a state");
