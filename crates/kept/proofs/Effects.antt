@@ -68,7 +68,7 @@ sound-stopped s k t some top made = go (eqb (task s t .activations) 0)
     go false = sound-moved s₁ k₁ t (activated (dormant p)) some top (sound-activated (dormant p) rests made) (may-none s₁ (activated (dormant p)) refl)
 
 -- ---- a semaphore is deleted
-padded-rest : (x : ℕ) (q : List ℕ) → (x ≡ 0 → ⊥) → T (padded (x ∷ q)) → T (padded q)
+pub padded-rest : (x : ℕ) (q : List ℕ) → (x ≡ 0 → ⊥) → T (padded (x ∷ q)) → T (padded q)
 unfolding listsOnly
 padded-rest x q some h = rw (ne-eqb x 0 some) at h
 

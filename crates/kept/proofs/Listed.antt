@@ -60,7 +60,7 @@ module _ (ls : List ℕ) (n : ℕ) (key : ℕ → ℕ) (k : Lists ls n key) wher
 -- ---- a task leaves its row for another
 -- what holds of a row as it was, where both keys say the same of it, of the row that was left and of the one that was joined, holds of each row
 module _ (P : List ℕ → Type 0) (ls : List ℕ) (f g t l : ℕ) where
-  row-cases : (one (isListed l f) ≡ one (isListed l g) → P (row ls l)) → ((f ≡ g → ⊥) → 1 ≤ l → l ≡ f → P (left (row ls f) t))
+  pub row-cases : (one (isListed l f) ≡ one (isListed l g) → P (row ls l)) → ((f ≡ g → ⊥) → 1 ≤ l → l ≡ f → P (left (row ls f) t))
       → ((f ≡ g → ⊥) → 1 ≤ l → l ≡ g → P (joined (row ls g) t)) → P (row (relisted ls f g t) l)
   row-cases stays leaves joins = go (same? f g) (same? l 0) (same? l f) (same? l g)
     where

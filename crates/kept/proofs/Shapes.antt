@@ -40,7 +40,7 @@ pub data Shape (s : State) : Plan → Type 0 where
   accepts : (c : Code) (e : Effect) → T (not (isRefusal c)) → (Sound s → Fit s e) → Shape s (answers c e)
 
 -- ---- the tests of a plan
-range : (low n top : ℕ) → T (within low n top) → (low ≤ n) × (n ≤ top)
+pub range : (low n top : ℕ) → T (within low n top) → (low ≤ n) × (n ≤ top)
 unfolding within
 range low n top h = let r = both (leb low n) (leb n top) h in (leb→le low n (r .0), leb→le n top (r .1))
 
@@ -84,7 +84,7 @@ module _ (s : State) where
       moves t x (r .0) (r .1) (sound (k .tasks t)) (⊎-elim (may-none s x) (may-same s k t x) waits)
 
   -- where nobody stands first in a semaphore's queue, nobody waits on it
-  no-waiter : Sound s → (m : ℕ) → 1 ≤ m → m ≤ 12 → firstOf (s .waits) m ≡ 0 → (t : ℕ) → rowOf (task s t) ≡ m → ⊥
+  pub no-waiter : Sound s → (m : ℕ) → 1 ≤ m → m ≤ 12 → firstOf (s .waits) m ≡ 0 → (t : ℕ) → rowOf (task s t) ≡ m → ⊥
   no-waiter k m low top e t f =
       let i = waiter-in s k t (omega arith) .0 in
       let there : occ t (row (s .waits) m) ≡ 1 = listed-in (s .waits) 13 (λ t. rowOf (task s t)) (k .waits) m t (omega arith) i low f in

@@ -1,0 +1,89 @@
+-- The record of a task whose own wait a tick, a stop or a deletion ends: after all the moves that these make, it is over.
+-- It goes by the effects of model/specs/Effect, one move after the other.
+use mathlib.Core.Path.{_≡_, refl, ap, _∙_}
+use mathlib.Core.Bool.{Bool, true, false, cond}
+use mathlib.Core.List.{List, [], _∷_}
+use mathlib.Core.Logic.{_⊎_, inl, inr, ⊎-elim}
+use Prim.Native.Nat.{ℕ, zero, suc, _+_, _-_, _≤_, _<_}
+use native.Mathlib.Omega.{arith}
+use lib.Dec.{T, eqb}
+use lib.ListN.{length}
+use borrow.Author.Tests.{eq-eqb, ne-eqb}
+use Rattle.model.specs.declared.Task.{Task}
+use Rattle.model.specs.declared.State.{State}
+use Rattle.model.specs.Task.{nothing, isTimed, ranOut, timeout, dlt, rowOf, dormant, activated, ended, withRemaining, aged}
+use Rattle.model.specs.State.{task, moved}
+use Rattle.model.specs.Effect.{stopped, endedAll, lapsed}
+use Rattle.model.specs.Test.{occ, padded}
+use Rattle.laws.proofs.Number.{same?}
+use Rattle.laws.proofs.Occ.{one-ne, occ-none, occ-cons}
+use Rattle.laws.proofs.Padded.{first-none}
+use Rattle.kept.proofs.Records.{row-waits}
+use Rattle.kept.proofs.Effects.{padded-rest}
+use Rattle.turns.specs.Statements.{Ended}
+use Rattle.turns.proofs.Still.{task-kept, task-moved, tasks-moved}
+
+-- ---- a tick
+lapsed-past : (n i : ℕ) (s : State) (t : ℕ) → t < i → task (lapsed n i s) t ≡ task s t
+unfolding lapsed
+lapsed-past zero i s t h = refl
+lapsed-past (suc n) i s t h =
+    lapsed-past n (suc i) (moved i (aged (task s i)) s) t (omega arith) ∙ task-kept s i (aged (task s i)) t (λ z. omega arith)
+
+pub lapsed-at : (n i : ℕ) (s : State) (t : ℕ) → t < length (s .tasks) → i ≤ t → t < n + i → task (lapsed n i s) t ≡ aged (task s t)
+unfolding lapsed
+lapsed-at zero i s t long low top = absurd (omega arith)
+lapsed-at (suc n) i s t long low top = ⊎-elim
+    (λ (e : i ≡ t). lapsed-past n (suc i) (moved i (aged (task s i)) s) t (omega arith) ∙ ap (λ j. task (moved j (aged (task s j)) s) t) e ∙ task-moved s t (aged (task s t)) long)
+    (λ (apart : i ≡ t → ⊥). lapsed-at n (suc i) (moved i (aged (task s i)) s) t (rw (tasks-moved s i (aged (task s i))) long) (omega arith) (omega arith)
+    ∙ ap aged (task-kept s i (aged (task s i)) t apart))
+    (same? i t)
+
+-- who waits on a semaphore waits on, or has run out of time
+pub aged-waits : (x : Task) (m : ℕ) → 1 ≤ m → rowOf x ≡ m → (rowOf (aged x) ≡ m) ⊎ ((aged x .wait ≡ nothing) × (aged x .code ≡ timeout))
+unfolding aged rowOf
+aged-waits x m some e = go (isTimed x) (eqb (x .remaining) 1)
+  where
+    awake : ranOut x ≡ timeout
+    awake = rw (row-waits x (omega arith))
+
+    go : (a b : Bool) → (rowOf (cond a (cond b (ended x (ranOut x)) (withRemaining x (x .remaining - 1))) x) ≡ m)
+        ⊎ ((cond a (cond b (ended x (ranOut x)) (withRemaining x (x .remaining - 1))) x .wait ≡ nothing)
+        × (cond a (cond b (ended x (ranOut x)) (withRemaining x (x .remaining - 1))) x .code ≡ timeout))
+    go true true = inr (refl, awake)
+    go true false = inl e
+    go false b = inl e
+
+-- ---- a stop
+pub stopped-at : (s : State) (t : ℕ) → t < length (s .tasks) → task (stopped t s) t .wait ≡ nothing
+unfolding stopped
+stopped-at s t long = go (eqb (task s t .activations) 0)
+  where
+    x : Task
+    x = dormant (task s t .base)
+
+    go : (b : Bool) → task (cond b (moved t x s) (moved t (activated x) (moved t x s))) t .wait ≡ nothing
+    go true = rw (task-moved s t x long)
+    go false = rw (task-moved (moved t x s) t (activated x) (rw (tasks-moved s t x) long))
+
+-- ---- a deletion
+pub ended-at : (q : List ℕ) (s : State) (t : ℕ) → 1 ≤ t → t < length (s .tasks) → T (padded q) → Ended s t dlt ⊎ (1 ≤ occ t q) → Ended (endedAll q s) t dlt
+unfolding endedAll
+ended-at [] s t some long ends (inl done) = done
+ended-at [] s t some long ends (inr there) = absurd (omega (arith, occ-none t))
+ended-at (u ∷ q) s t some long ends w = ⊎-elim
+    (λ (z : u ≡ 0). rw (eq-eqb u 0 z) (here z w))
+    (λ (n : u ≡ 0 → ⊥). rw (ne-eqb u 0 n) (ended-at q s₁ t some (rw (tasks-moved s u (ended (task s u) dlt)) long) (padded-rest u q n ends) (on (same? u t) w)))
+    (same? u 0)
+  where
+    s₁ : State
+    s₁ = moved u (ended (task s u) dlt) s
+
+    here : u ≡ 0 → Ended s t dlt ⊎ (1 ≤ occ t (u ∷ q)) → Ended s t dlt
+    here z (inl done) = done
+    here z (inr there) = absurd (omega (arith, first-none (u ∷ q) ends z t some))
+
+    on : (u ≡ t) ⊎ (u ≡ t → ⊥) → Ended s t dlt ⊎ (1 ≤ occ t (u ∷ q)) → Ended s₁ t dlt ⊎ (1 ≤ occ t q)
+    on (inl e) w = let z : task s₁ t ≡ ended (task s t) dlt = ap (λ i. task (moved i (ended (task s i) dlt) s) t) e ∙ task-moved s t (ended (task s t) dlt) long in inl (record { over = rw z; code = rw z })
+    on (inr apart) (inl done) = let z = task-kept s u (ended (task s u) dlt) t apart in inl (record { over = rw z (done .over); code = rw z (done .code) })
+    on (inr apart) (inr there) = inr (omega (arith, occ-cons t u q, one-ne u t apart))

@@ -1,0 +1,219 @@
+-- What a call does to a task that waits on a semaphore: it waits on, one place nearer at a release, or its wait ends in one of five ways.
+-- It goes by the ways of the plans (Ways), by the moves that leave a waiter where it is (Still) and by those that end its wait (Ends).
+use mathlib.Core.Path.{_≡_, refl, sym, ap, _∙_}
+use mathlib.Core.Bool.{Bool, true, false, cond, not, _&&_}
+use mathlib.Core.Logic.{_⊎_, inl, inr, ⊎-elim}
+use Prim.Native.Nat.{ℕ, suc, _+_, _≤_, _<_, _%_, _^_}
+use native.Mathlib.Omega.{arith}
+use lib.Dec.{T, eqb, ltb, eqb-refl}
+use lib.ListN.{length}
+use Rattle.model.specs.declared.Task.{Task}
+use Rattle.model.specs.declared.State.{State}
+use Rattle.model.specs.declared.Plan.{Plan}
+use Rattle.model.specs.declared.Effect.{Effect}
+use Rattle.model.specs.declared.Effect.the-variants.{Nothing, Moves, Stops, Counts, Deletes, Slices, Ticks}
+use Rattle.model.specs.Row.{place, first, left, row, firstOf, relisted}
+use Rattle.model.specs.Task.{nothing, served, timeout, dlt, released, rowOf, ended, aged}
+use Rattle.model.specs.State.{task, slice, charge, waiters, running, moved, counted, sliced, withCharge, rotated, withTime}
+use Rattle.model.specs.Code.{isRefusal}
+use Rattle.model.specs.Effect.{deleted, chargedLevel, charged, lapsed, ticked, carried}
+use Rattle.model.specs.Plan.{does}
+use Rattle.model.specs.Test.{one, occ}
+use Rattle.model.specs.Sound.{Sound}
+use Rattle.laws.proofs.Number.{same?}
+use Rattle.laws.proofs.Table.{first-row}
+use Rattle.laws.proofs.Relisted.{row-relisted-from}
+use Rattle.laws.proofs.Occ.{one-eq, one-ne}
+use Rattle.kept.proofs.Listed.{key-of, key-first, listed-in}
+use Rattle.kept.proofs.Records.{row-waits}
+use Rattle.kept.proofs.Effects.{Fit, waiter-in}
+use Rattle.kept.proofs.Effects as Effects
+use Rattle.kept.proofs.Running.{runner}
+use Rattle.kept.proofs.Shapes.{Shape, refuses, accepts, no-waiter}
+use Rattle.turns.specs.Kind as Kinds
+use Rattle.turns.specs.Kind.{Kind, forcedRelease, release, deletion, isReleaseOf}
+use Rattle.turns.specs.Statements.{Ended}
+use Rattle.turns.proofs.Places.{place-served}
+use Rattle.turns.proofs.Ways as Ways
+use Rattle.turns.proofs.Ways.{Way}
+use Rattle.turns.proofs.Ends.{lapsed-at, aged-waits, stopped-at, ended-at}
+use Rattle.turns.proofs.Still.{task-moved, Keyed, Still, still-same, still-then, still-moved, still-stopped, still-ended, still-lapsed}
+
+on-waits : Keyed rowOf (λ s. s .waits)
+unfolding moved
+on-waits = record { relists = λ s u x. refl }
+
+-- ---- what a call does to t, which waits on m
+pub data Outcome (s : State) (m t : ℕ) (k : Kind) (p : Plan) : Type 0 where
+  waits : rowOf (task (carried s (p .effect)) t) ≡ m
+      → place (waiters (carried s (p .effect)) m) t + one (not (isRefusal (p .code)) && isReleaseOf m k) ≤ place (waiters s m) t → Outcome s m t k p
+  holds : T (not (isRefusal (p .code)) && isReleaseOf m k) → Ended (carried s (p .effect)) t served → Outcome s m t k p
+  lapses : T (not (isRefusal (p .code))) → k ≡ Kinds.tick → Ended (carried s (p .effect)) t timeout → Outcome s m t k p
+  forced : T (not (isRefusal (p .code))) → k ≡ forcedRelease t → Ended (carried s (p .effect)) t released → Outcome s m t k p
+  stops : T (not (isRefusal (p .code))) → k ≡ Kinds.terminate t → task (carried s (p .effect)) t .wait ≡ nothing → Outcome s m t k p
+  deletes : T (not (isRefusal (p .code))) → k ≡ deletion m → Ended (carried s (p .effect)) t dlt → Outcome s m t k p
+
+-- what its tests have shown of the numbers in an effect
+unfoldable pub InRange : Effect → Type 0
+InRange Nothing = Unit {0}
+InRange (Moves u x) = (1 ≤ u) × (u ≤ 24)
+InRange (Stops u) = (1 ≤ u) × (u ≤ 24)
+InRange (Counts m n v) = Unit {0}
+InRange (Deletes m) = (1 ≤ m) × (m ≤ 12)
+InRange (Slices l v) = Unit {0}
+InRange Ticks = Unit {0}
+
+pub in-range : {s : State} {p : Plan} → Sound s → Shape s p → InRange (p .effect)
+unfolding InRange
+in-range k (refuses c n) = tt
+in-range k (accepts c e n fit) = go (fit k)
+  where
+    go : {s : State} {e : Effect} → Fit s e → InRange e
+    go Effects.none = tt
+    go (Effects.moves t x low top sound may) = (low, top)
+    go (Effects.stops t low top made) = (low, top)
+    go (Effects.counts m n v low most top free) = tt
+    go (Effects.deletes m low top) = (low, top)
+    go (Effects.slices l v low top) = tt
+    go Effects.ticks = tt
+
+-- a refusal, and a call that is no release, is no successful release
+no-release : (b d : Bool) → T b → one (not b && d) ≡ 0
+no-release true d h = refl
+no-release false d h = absurd h
+
+no-other : (b : Bool) → one (b && false) ≡ 0
+no-other true = refl
+no-other false = refl
+
+-- a tick charges nobody's wait
+tasks-charged : (s : State) (run : ℕ) → (charged run s .tasks ≡ s .tasks) × (charged run s .waits ≡ s .waits)
+unfolding charged chargedLevel rotated
+tasks-charged s run = go (eqb run 0) (eqb (slice s (task s run .priority)) 0) (ltb (charge s (task s run .priority) + 1) (slice s (task s run .priority)))
+  where
+    l : ℕ
+    l = task s run .priority
+
+    z : Bool → Bool → Bool → State
+    z a b c = cond a s (cond b s (cond c (withCharge l (charge s l + 1) s) (rotated l (withCharge l 0 s))))
+
+    go : (a b c : Bool) → (z a b c .tasks ≡ s .tasks) × (z a b c .waits ≡ s .waits)
+    go true b c = (refl, refl)
+    go false true c = (refl, refl)
+    go false false true = (refl, refl)
+    go false false false = (refl, refl)
+
+module _ (s : State) (k : Sound s) (m t : ℕ) (h : 1 ≤ m) (e : rowOf (task s t) ≡ m) where
+  low : 1 ≤ t
+  low = waiter-in s k t (omega arith) .0
+
+  long : t < length (s .tasks)
+  long = omega (arith, k .tasks#, waiter-in s k t (omega arith) .1)
+
+  -- it goes on waiting
+  on : {j : Kind} {p : Plan} → Still rowOf (λ z. z .waits) m t s (carried s (p .effect)) → one (not (isRefusal (p .code)) && isReleaseOf m j) ≡ 0 → Outcome s m t j p
+  on a z = waits (a .keyed) (omega (arith, a .nearer))
+
+  same : Still rowOf (λ z. z .waits) m t s s
+  same = still-same on-waits m t low s e
+
+  -- where the tables of waiters and tasks stay as they are
+  untouched : (z : State) → z .tasks ≡ s .tasks → z .waits ≡ s .waits → Still rowOf (λ z. z .waits) m t s z
+  untouched z a b = record { keyed = rw a e; nearer = rw b (omega arith) }
+
+  -- another's record changes, or t's own with the same wait
+  moving : (u : ℕ) (x : Task) → (u ≡ t → rowOf x ≡ m) → Still rowOf (λ z. z .waits) m t s (moved u x s)
+  moving u x keeps = still-moved on-waits m t low s u x e keeps
+
+  listed : m ≤ 12 → occ t (waiters s m) ≡ 1
+  listed top = listed-in (s .waits) 13 (λ u. rowOf (task s u)) (k .waits) m t (omega arith) low h e
+
+  -- its own wait ends
+  over : (u v : ℕ) → u ≡ t → Ended (moved u (ended (task s u) v) s) t v
+  over u v z =
+      let y : task (moved u (ended (task s u) v) s) t ≡ ended (task s t) v = ap (λ i. task (moved i (ended (task s i) v) s) t) z ∙ task-moved s t (ended (task s t) v) long in
+      record { over = rw y; code = rw y }
+
+  -- the first of its queue is served
+  first-leaves : (u : ℕ) → m ≤ 12 → firstOf (s .waits) m ≡ u → rowOf (task s u) ≡ m → (u ≡ t → ⊥)
+      → suc (place (waiters (moved u (ended (task s u) served) s) m) t) ≤ place (waiters s m) t
+  unfolding moved rowOf
+  first-leaves u top f g apart =
+      let q : first (waiters s m) ≡ u = sym (first-row (s .waits) m) ∙ f in
+      let z : row (relisted (s .waits) (rowOf (task s u)) 0 u) m ≡ left (waiters s m) (first (waiters s m)) =
+      ap (λ i. row (relisted (s .waits) i 0 u) m) g ∙ row-relisted-from (s .waits) m 0 u (λ y. omega arith) (λ y. omega arith) ∙ ap (left (waiters s m)) (sym q) in
+      rw z (place-served (waiters s m) t (omega (arith, listed top)) (λ y. apart (sym q ∙ y)))
+
+  serving : (n : ℕ) → n ≤ 12 → 1 ≤ firstOf (s .waits) n
+      → Outcome s m t (release n) (does (Moves (firstOf (s .waits) n) (ended (task s (firstOf (s .waits) n)) served)))
+  unfolding carried
+  serving n top some = go (same? u t) (same? n m)
+    where
+      u : ℕ
+      u = firstOf (s .waits) n
+
+      g : rowOf (task s u) ≡ n
+      g = key-first (s .waits) 13 (λ i. rowOf (task s i)) (k .waits) n (omega arith) (λ z. omega arith) .1
+
+      go : (u ≡ t) ⊎ (u ≡ t → ⊥) → (n ≡ m) ⊎ (n ≡ m → ⊥) → Outcome s m t (release n) (does (Moves u (ended (task s u) served)))
+      go (inl z) b = let y : n ≡ m = sym g ∙ ap (λ i. rowOf (task s i)) z ∙ e in holds (rw y (eqb-refl m)) (over u served z)
+      go (inr apart) (inl y) =
+          waits (moving u (ended (task s u) served) (λ z. absurd (apart z)) .keyed)
+          (omega (arith, one-eq n m y, first-leaves u (omega arith) (ap (firstOf (s .waits)) (sym y)) (g ∙ y) apart))
+      go (inr apart) (inr other) = on (moving u (ended (task s u) served) (λ z. absurd (apart z))) (one-ne n m other)
+
+  deleting : (n : ℕ) → 1 ≤ n → n ≤ 12 → Outcome s m t (deletion n) (does (Deletes n))
+  unfolding carried deleted counted
+  deleting n some top = go (same? n m)
+    where
+      go : (n ≡ m) ⊎ (n ≡ m → ⊥) → Outcome s m t (deletion n) (does (Deletes n))
+      go (inl y) =
+          let a = ended-at (waiters s n) s t low long (k .waits .ends n (omega arith)) (inr (rw y (omega (arith, listed (omega arith))))) in
+          deletes tt (ap deletion y) (record { over = a .over; code = a .code })
+      go (inr other) =
+          let a = still-ended on-waits m t low (waiters s n) s
+          (λ there. absurd (other (sym (key-of (s .waits) 13 (λ i. rowOf (task s i)) (k .waits) n t (omega arith) low there .1) ∙ e))) e in
+          on (record { keyed = a .keyed; nearer = a .nearer }) refl
+
+  ticking : Outcome s m t Kinds.tick (does Ticks)
+  unfolding carried ticked
+  ticking = go (aged-waits (task s t) m h e)
+    where
+      z : State
+      z = charged (running s) (withTime ((s .time + 1) % 2 ^ 32) s)
+
+      kept : (z .tasks ≡ s .tasks) × (z .waits ≡ s .waits)
+      kept = tasks-charged (withTime ((s .time + 1) % 2 ^ 32) s) (running s)
+
+      at : task z t ≡ task s t
+      at = rw (kept .0)
+
+      go : (rowOf (aged (task s t)) ≡ m) ⊎ ((aged (task s t) .wait ≡ nothing) × (aged (task s t) .code ≡ timeout)) → Outcome s m t Kinds.tick (does Ticks)
+      go (inl w) = on (still-then on-waits m t low (untouched z (kept .0) (kept .1)) (still-lapsed on-waits m t low 24 1 z (λ _. rw at w) (rw at e))) refl
+      go (inr w) =
+          let y : task (lapsed 24 1 z) t ≡ aged (task s t) = lapsed-at 24 1 z t (rw (kept .0) long) low (omega (arith, waiter-in s k t (omega arith))) ∙ ap aged at in
+          lapses tt refl (record { over = rw y (w .0); code = rw y (w .1) })
+
+  pub outcome : {j : Kind} {p : Plan} → Way s j p → InRange (p .effect) → Outcome s m t j p
+  unfolding carried InRange counted sliced
+  outcome {j} (Ways.refuses c n) r = on same (no-release (isRefusal c) (isReleaseOf m j) n)
+  outcome Ways.ticks r = ticking
+  outcome Ways.exits r =
+      on (still-stopped on-waits m t low s (running s) (λ z. omega (arith, row-waits (task s t) (omega arith), rw z at (runner s k (r .0) .idle))) e) refl
+  outcome (Ways.terminates u) r = ⊎-elim
+      (λ (z : u ≡ t). stops tt (ap Kinds.terminate z) (rw z (stopped-at s t long)))
+      (λ (apart : u ≡ t → ⊥). on (still-stopped on-waits m t low s u apart e) refl)
+      (same? u t)
+  outcome (Ways.forces u) r = ⊎-elim
+      (λ (z : u ≡ t). forced tt (ap forcedRelease z) (over u released z))
+      (λ (apart : u ≡ t → ⊥). on (moving u (ended (task s u) released) (λ z. absurd (apart z))) refl)
+      (same? u t)
+  outcome (Ways.slices l v) r = on (untouched (sliced l v s) refl refl) refl
+  outcome (Ways.serves n top some) r = serving n top some
+  outcome (Ways.raises n c v top free) r =
+      on (untouched (counted n c v s) refl refl) (one-ne n m (λ y. no-waiter s k m h (omega arith) (rw y at free) t e))
+  outcome (Ways.deletes n) r = deleting n (r .0) (r .1)
+  outcome Ways.keeps r = on same refl
+  outcome (Ways.counts n c v) r = on (untouched (counted n c v s) refl refl) refl
+  outcome (Ways.moves c u x n keeps) r =
+      on (moving u x (λ z. let y = ap (λ i. rowOf (task s i)) z ∙ e in keeps k (omega arith) ∙ y)) (no-other (not (isRefusal c)))

@@ -1,0 +1,102 @@
+-- A task that keeps its key keeps its row and stands no later in it, whatever is moved, stopped, ended or lapsed.
+-- It goes by `moved` of model/specs/State alone, for levels and semaphores at once: a key, a table, and how a move relists it.
+use mathlib.Core.Path.{_≡_, sym, ap, _∙_, subst}
+use mathlib.Core.Bool.{Bool, true, false, cond}
+use mathlib.Core.List.{List, [], _∷_}
+use mathlib.Core.Logic.{⊎-elim}
+use Prim.Native.Nat.{ℕ, zero, suc, _≤_, _<_}
+use native.Mathlib.Omega.{arith}
+use lib.Dec.{eqb}
+use lib.ListN.{length, length-set}
+use lib.Seq.{getD-set-same, getD-set-other, set-out}
+use borrow.Author.Tests.{eq-eqb, ne-eqb}
+use Rattle.model.specs.declared.Task.{Task}
+use Rattle.model.specs.declared.State.{State}
+use Rattle.model.specs.Row.{place, row, relisted}
+use Rattle.model.specs.Task.{noTask, dormant, activated, ended, dlt, aged}
+use Rattle.model.specs.State.{task, moved}
+use Rattle.model.specs.Effect.{stopped, endedAll, lapsed}
+use Rattle.model.specs.Test.{occ}
+use Rattle.laws.proofs.Number.{same?, below?}
+use Rattle.laws.proofs.Occ.{occ-cons, one-eq}
+use Rattle.turns.proofs.Places.{place-relisted}
+
+-- ---- the record of t after a move
+pub task-kept : (s : State) (u : ℕ) (x : Task) (t : ℕ) → (u ≡ t → ⊥) → task (moved u x s) t ≡ task s t
+unfolding moved
+task-kept s u x t apart = getD-set-other (s .tasks) u t x noTask (λ e. apart (sym e))
+
+pub task-moved : (s : State) (t : ℕ) (x : Task) → t < length (s .tasks) → task (moved t x s) t ≡ x
+unfolding moved
+task-moved s t x h = getD-set-same (s .tasks) t x noTask h
+
+pub tasks-moved : (s : State) (u : ℕ) (x : Task) → length (moved u x s .tasks) ≡ length (s .tasks)
+unfolding moved
+tasks-moved s u x = length-set (s .tasks) u x
+
+-- what holds of its own new record, and of its old one, holds of its record
+pub task-either : (P : Task → Type 0) (s : State) (u : ℕ) (x : Task) (t : ℕ) → (u ≡ t → P x) → P (task s t) → P (task (moved u x s) t)
+unfolding moved
+task-either P s u x t here else = ⊎-elim
+    (λ (e : u ≡ t). ⊎-elim
+    (λ (h : t < length (s .tasks)). subst P (sym (ap (λ i. task (moved i x s) t) e ∙ task-moved s t x h)) (here e))
+    (λ (h : length (s .tasks) ≤ t). rw (set-out (s .tasks) u x (omega arith)) else)
+    (below? t (length (s .tasks))))
+    (λ (apart : u ≡ t → ⊥). subst P (sym (task-kept s u x t apart)) else)
+    (same? u t)
+
+-- ---- a key and its table
+pub record Keyed (key : Task → ℕ) (table : State → List ℕ) : Type 0 where
+  pub relists : (s : State) (u : ℕ) (x : Task) → table (moved u x s) ≡ relisted (table s) (key (task s u)) (key x) u
+
+pub record Still (key : Task → ℕ) (table : State → List ℕ) (l t : ℕ) (s s′ : State) : Type 0 where
+  pub keyed : key (task s′ t) ≡ l
+  pub nearer : place (row (table s′) l) t ≤ place (row (table s) l) t
+
+module _ {key : Task → ℕ} {table : State → List ℕ} (keyed : Keyed key table) (l t : ℕ) (some : 1 ≤ t) where
+  pub still-same : (s : State) → key (task s t) ≡ l → Still key table l t s s
+  still-same s e = record { keyed = e; nearer = omega arith }
+
+  pub still-then : {s₁ s₂ s₃ : State} → Still key table l t s₁ s₂ → Still key table l t s₂ s₃ → Still key table l t s₁ s₃
+  still-then a b = record { keyed = b .keyed; nearer = omega (arith, a .nearer, b .nearer) }
+
+  pub still-moved : (s : State) (u : ℕ) (x : Task) → key (task s t) ≡ l → (u ≡ t → key x ≡ l) → Still key table l t s (moved u x s)
+  still-moved s u x e keeps = record {
+    keyed = task-either (λ y. key y ≡ l) s u x t keeps e;
+    nearer = rw (keyed .relists s u x) (place-relisted (table s) (key (task s u)) (key x) u l t some (λ z. ap (λ i. key (task s i)) z ∙ e ∙ sym (keeps z)));
+  }
+
+  -- another stops
+  pub still-stopped : (s : State) (u : ℕ) → (u ≡ t → ⊥) → key (task s t) ≡ l → Still key table l t s (stopped u s)
+  unfolding stopped
+  still-stopped s u apart e = go (eqb (task s u .activations) 0)
+    where
+      x : Task
+      x = dormant (task s u .base)
+
+      a : Still key table l t s (moved u x s)
+      a = still-moved s u x e (λ z. absurd (apart z))
+
+      go : (b : Bool) → Still key table l t s (cond b (moved u x s) (moved u (activated x) (moved u x s)))
+      go true = a
+      go false = still-then a (still-moved (moved u x s) u (activated x) (a .keyed) (λ z. absurd (apart z)))
+
+  -- the waits of a queue end
+  pub still-ended : (q : List ℕ) (s : State) → (1 ≤ occ t q → (x : Task) → key x ≡ l → key (ended x dlt) ≡ l) → key (task s t) ≡ l → Still key table l t s (endedAll q s)
+  unfolding endedAll
+  still-ended [] s keeps e = still-same s e
+  still-ended (u ∷ q) s keeps e = ⊎-elim
+      (λ (z : u ≡ 0). rw (eq-eqb u 0 z) (still-same s e))
+      (λ (n : u ≡ 0 → ⊥). rw (ne-eqb u 0 n)
+      (let a = still-moved s u (ended (task s u) dlt) e (λ z. rw z (keeps (omega (arith, occ-cons t u q, one-eq u t z)) (task s t) e)) in
+      still-then a (still-ended q (moved u (ended (task s u) dlt) s) (λ there. keeps (omega (arith, occ-cons t u q))) (a .keyed))))
+      (same? u 0)
+
+  -- timeouts fall
+  pub still-lapsed : (n i : ℕ) (s : State) → (i ≤ t → key (aged (task s t)) ≡ l) → key (task s t) ≡ l → Still key table l t s (lapsed n i s)
+  unfolding lapsed
+  still-lapsed zero i s keeps e = still-same s e
+  still-lapsed (suc n) i s keeps e =
+      let a = still-moved s i (aged (task s i)) e (λ z. rw z (keeps (omega arith))) in
+      still-then a (still-lapsed n (suc i) (moved i (aged (task s i)) s)
+      (λ low. rw (task-kept s i (aged (task s i)) t (λ z. omega arith)) (keeps (omega arith))) (a .keyed))

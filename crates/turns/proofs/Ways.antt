@@ -1,0 +1,189 @@
+-- Which calls have which plans: one pass over the services that keeps, besides the effect, the kind of the call that asks for it.
+-- It rests on the services of model/specs/Service and on who runs (kept); the two bounds go by these ways, never by the calls.
+use mathlib.Core.Path.{_≡_, refl, ap}
+use mathlib.Core.Bool.{Bool, true, false, cond, not, _&&_}
+use Prim.Native.Nat.{ℕ, _+_, _-_, _≤_}
+use native.Mathlib.Omega.{arith}
+use lib.Dec.{T, eqb, leb, ltb, eqb→eq}
+use Rattle.model.specs.declared.Task.{Task}
+use Rattle.model.specs.declared.State.{State}
+use Rattle.model.specs.declared.Plan.{Plan}
+use Rattle.model.specs.declared.Effect.the-variants.{Nothing, Moves, Stops, Counts, Deletes, Slices, Ticks}
+use Rattle.model.specs.declared.Code.{Code}
+use Rattle.model.specs.declared.Code.the-variants.{WContext, WrongParam, NoExs}
+use Rattle.model.specs.declared.Context.{Context}
+use Rattle.model.specs.declared.Call.{Call}
+use Rattle.model.specs.declared.Call.the-variants.{TaskCreate, TaskDelete, TaskActivate, TaskIactivate, TaskExit, TaskTerminate, TaskSuspend, TaskResume, TaskSleep, TaskWakeup, TaskIwakeup, TaskReleaseWait, TaskIreleaseWait, TaskChangePriority}
+use Rattle.model.specs.declared.Call.the-variants.{SysTsliceTicks, TickIntProcessing, SemCreate, SemDelete, SemSignal, SemIsignal, SemAcquire, SemPolling, SemIpolling}
+use Rattle.model.specs.Row.{firstOf}
+use Rattle.model.specs.Task.{isCreated, isDormant, isSuspended, isWaiting, isAsleep, aSleep, aSemaphore, served, released, rowOf, ended}
+use Rattle.model.specs.State.{task, count, maximum, semaphore, running}
+use Rattle.model.specs.Code.{isRefusal}
+use Rattle.model.specs.Plan.{isTask, isPriority, isSemaphore, isMaximum, isTimeout, isSlice, isMade, does, answers, refused, need, checked}
+use Rattle.model.specs.Service.{create, delete, activate, exit, terminate, suspend, resume, sleep, wakeup, releaseWait, wanted, changePriority, tsliceTicks, tick, semCreate, semDelete, signal, acquire, polling}
+use Rattle.model.specs.Call.{inT, inI, plan, planned}
+use Rattle.model.specs.Sound.{SoundTask, Sound}
+use Rattle.laws.proofs.Padded.{both}
+use Rattle.kept.proofs.Records.{some-of, none-of, row-waits}
+use Rattle.kept.proofs.Running.{runner}
+use Rattle.kept.proofs.Shapes.{range}
+use Rattle.turns.specs.Kind as Kinds
+use Rattle.turns.specs.Kind.{Kind, other, forcedRelease, setSlice, release, deletion, kind}
+
+pub data Way (s : State) : Kind → Plan → Type 0 where
+  refuses : {k : Kind} (c : Code) → T (isRefusal c) → Way s k (refused c)
+  ticks : Way s Kinds.tick (does Ticks)
+  exits : Way s Kinds.exit (does (Stops (running s)))
+  terminates : (u : ℕ) → Way s (Kinds.terminate u) (does (Stops u))
+  forces : (u : ℕ) → Way s (forcedRelease u) (does (Moves u (ended (task s u) released)))
+  slices : (l v : ℕ) → Way s (setSlice l) (does (Slices l v))
+  serves : (m : ℕ) → m ≤ 12 → 1 ≤ firstOf (s .waits) m → Way s (release m) (does (Moves (firstOf (s .waits) m) (ended (task s (firstOf (s .waits) m)) served)))
+  raises : (m n v : ℕ) → m ≤ 12 → firstOf (s .waits) m ≡ 0 → Way s (release m) (does (Counts m n v))
+  deletes : (m : ℕ) → Way s (deletion m) (does (Deletes m))
+  -- any other call lets a waiter wait as it did
+  keeps : Way s other (does Nothing)
+  counts : (m n v : ℕ) → Way s other (does (Counts m n v))
+  moves : (c : Code) (u : ℕ) (x : Task) → T (not (isRefusal c)) → (Sound s → 1 ≤ rowOf (task s u) → rowOf x ≡ rowOf (task s u)) → Way s other (answers c (Moves u x))
+
+-- ---- the tests of a plan
+module _ {s : State} {k : Kind} where
+  needs : (b : Bool) (c : Code) (p : Plan) → T (isRefusal c) → (T b → Way s k p) → Way s k (need b c p)
+  needs true c p n f = f tt
+  needs false c p n f = refuses c n
+
+  picks : (b : Bool) (p q : Plan) → (T b → Way s k p) → (T (not b) → Way s k q) → Way s k (cond b p q)
+  picks true p q f g = f tt
+  picks false p q f g = g tt
+
+  checks : (right there mine : Bool) (p : Plan) → (T right → T there → Way s k p) → Way s k (checked right there mine p)
+  checks right there mine p f =
+      needs right WrongParam (need there NoExs (need mine WContext p)) tt (λ h.
+      needs there NoExs (need mine WContext p) tt (λ g. needs mine WContext p tt (λ _. f h g)))
+
+module _ (s : State) where
+  -- ---- records of those who do not wait on a semaphore
+  idle : {A : Type 0} (x : Task) → (x .wait ≡ aSemaphore → ⊥) → 1 ≤ rowOf x → A
+  idle x free h = absurd (free (row-waits x h))
+
+  dormant-idle : {A : Type 0} (x : Task) → SoundTask x → x .active ≡ 0 → 1 ≤ rowOf x → A
+  dormant-idle x k e = idle x (λ z. omega (arith, k .dormant e .0))
+
+  runs-idle : {A : Type 0} → Sound s → T (not (eqb (running s) 0)) → 1 ≤ rowOf (task s (running s)) → A
+  runs-idle k h = idle (task s (running s)) (λ z. omega (arith, runner s k (some-of (running s) h) .idle))
+
+  -- ---- tasks
+  way-create : (mine : Bool) (t p o : ℕ) → Way s other (create mine t p o (task s t))
+  unfolding create
+  way-create mine t p o = checks (isTask t && (isPriority p && (leb o 1 && not (isCreated (task s t))))) true mine _ (λ h _.
+      let a = both (isTask t) (isPriority p && (leb o 1 && not (isCreated (task s t)))) h in
+      let b = both (isPriority p) (leb o 1 && not (isCreated (task s t))) (a .1) in
+      let e = none-of (task s t .base) (both (leb o 1) (not (isCreated (task s t))) (b .1) .1) in
+      moves _ _ _ tt (λ k. idle (task s t) (λ z. omega (arith, ap (λ (x : Task). x .wait) (k .tasks t .blank e)))))
+
+  way-delete : (mine : Bool) (t : ℕ) → Way s other (delete mine t (task s t))
+  unfolding delete
+  way-delete mine t = checks (isTask t) (isCreated (task s t)) mine _ (λ _ _. needs (isDormant (task s t)) _ _ tt (λ rests.
+      moves _ _ _ tt (λ k. dormant-idle (task s t) (k .tasks t) (eqb→eq (task s t .active) 0 rests))))
+
+  way-activate : (mine : Bool) (t : ℕ) → Way s other (activate mine t (task s t))
+  unfolding activate rowOf
+  way-activate mine t = checks (isTask t) (isCreated (task s t)) mine _ (λ _ _. picks (isDormant (task s t)) _ _ (λ _. moves _ _ _ tt (λ _ _. refl))
+      (λ _. needs (eqb (task s t .activations) 0) _ _ tt (λ _. moves _ _ _ tt (λ _ _. refl))))
+
+  way-exit : (mine : Bool) → Way s Kinds.exit (exit mine (running s))
+  unfolding exit
+  way-exit mine = checks true true mine _ (λ _ _. needs (not (eqb (running s) 0)) _ _ tt (λ _. exits))
+
+  way-terminate : (mine : Bool) (t : ℕ) → Way s (Kinds.terminate t) (terminate mine t (running s) (task s t))
+  unfolding terminate
+  way-terminate mine t = checks (isTask t) (isCreated (task s t)) mine _ (λ _ _. needs (not (eqb t (running s))) _ _ tt (λ _.
+      needs (not (isDormant (task s t))) _ _ tt (λ _. terminates t)))
+
+  way-suspend : (mine : Bool) (t : ℕ) → Way s other (suspend mine t (task s t))
+  unfolding suspend rowOf
+  way-suspend mine t = checks (isTask t) (isCreated (task s t)) mine _ (λ _ _. needs (not (isDormant (task s t))) _ _ tt (λ _.
+      needs (not (isSuspended (task s t))) _ _ tt (λ _. moves _ _ _ tt (λ _ _. refl))))
+
+  way-resume : (mine : Bool) (t : ℕ) → Way s other (resume mine t (task s t))
+  unfolding resume rowOf
+  way-resume mine t = checks (isTask t) (isCreated (task s t)) mine _ (λ _ _. needs (isSuspended (task s t)) _ _ tt (λ _. moves _ _ _ tt (λ _ _. refl)))
+
+  way-sleep : (mine : Bool) (d : ℕ) → Way s other (sleep mine d (running s) (task s (running s)))
+  unfolding sleep
+  way-sleep mine d = checks (isTimeout d) true mine _ (λ _ _. needs (not (eqb (running s) 0)) _ _ tt (λ some. picks (eqb (task s (running s) .wakeups) 0) _ _
+      (λ _. moves _ _ _ tt (λ k. runs-idle k some)) (λ _. moves _ _ _ tt (λ k. runs-idle k some))))
+
+  way-wakeup : (mine : Bool) (t : ℕ) → Way s other (wakeup mine t (task s t))
+  unfolding wakeup rowOf
+  way-wakeup mine t = checks (isTask t) (isCreated (task s t)) mine _ (λ _ _. needs (not (isDormant (task s t))) _ _ tt (λ _. picks (isAsleep (task s t)) _ _
+      (λ sleeps. moves _ _ _ tt (λ _. idle (task s t) (λ z. omega (arith, eqb→eq (task s t .wait) aSleep sleeps))))
+      (λ _. needs (eqb (task s t .wakeups) 0) _ _ tt (λ _. moves _ _ _ tt (λ _ _. refl)))))
+
+  way-releaseWait : (mine : Bool) (t : ℕ) → Way s (forcedRelease t) (releaseWait mine t (task s t))
+  unfolding releaseWait
+  way-releaseWait mine t = checks (isTask t) (isCreated (task s t)) mine _ (λ _ _. needs (isWaiting (task s t)) _ _ tt (λ _. forces t))
+
+  way-changePriority : (mine : Bool) (t p : ℕ) → Way s other (changePriority mine t p (task s t))
+  unfolding changePriority rowOf
+  way-changePriority mine t p = checks (isTask t && leb p 30) (isCreated (task s t)) mine _ (λ _ _. needs (not (isDormant (task s t))) _ _ tt (λ _.
+      picks (eqb (wanted p (task s t)) (task s t .priority)) _ _ (λ _. keeps) (λ _. moves _ _ _ tt (λ _ _. refl))))
+
+  -- ---- slices and the tick
+  way-tsliceTicks : (mine : Bool) (l v : ℕ) → Way s (setSlice l) (tsliceTicks mine l v)
+  unfolding tsliceTicks
+  way-tsliceTicks mine l v = checks (isPriority l && isSlice v) true mine _ (λ _ _. slices l v)
+
+  way-tick : (mine : Bool) → Way s Kinds.tick (tick mine)
+  unfolding tick
+  way-tick mine = checks true true mine _ (λ _ _. ticks)
+
+  -- ---- semaphores
+  way-semCreate : (mine : Bool) (m n v : ℕ) → Way s other (semCreate mine m n v (semaphore s m))
+  unfolding semCreate
+  way-semCreate mine m n v = checks (isSemaphore m && (isMaximum v && (leb n v && not (isMade (semaphore s m))))) true mine _ (λ _ _. counts m n v)
+
+  way-semDelete : (mine : Bool) (m : ℕ) → Way s (deletion m) (semDelete mine m (semaphore s m))
+  unfolding semDelete
+  way-semDelete mine m = checks (isSemaphore m) (isMade (semaphore s m)) mine _ (λ _ _. deletes m)
+
+  way-signal : (mine : Bool) (m : ℕ) → Way s (release m) (signal mine m (task s (firstOf (s .waits) m)) (semaphore s m))
+  unfolding signal
+  way-signal mine m = checks (isSemaphore m) (isMade (semaphore s m)) mine _ (λ h _. picks (eqb (firstOf (s .waits) m) 0) _ _
+      (λ none. needs (ltb (count s m) (maximum s m)) _ _ tt (λ _. raises m (count s m + 1) (maximum s m) (range 1 m 12 h .1) (eqb→eq (firstOf (s .waits) m) 0 none)))
+      (λ some. serves m (range 1 m 12 h .1) (some-of (firstOf (s .waits) m) some)))
+
+  way-acquire : (mine : Bool) (m d : ℕ) → Way s other (acquire mine m d (running s) (task s (running s)) (semaphore s m))
+  unfolding acquire
+  way-acquire mine m d = checks (isSemaphore m && isTimeout d) (isMade (semaphore s m)) mine _ (λ _ _. needs (not (eqb (running s) 0)) _ _ tt (λ some.
+      picks (eqb (count s m) 0) _ _ (λ _. moves _ _ _ tt (λ k. runs-idle k some)) (λ _. counts m (count s m - 1) (maximum s m))))
+
+  way-polling : (mine : Bool) (m : ℕ) → Way s other (polling mine m (semaphore s m))
+  unfolding polling
+  way-polling mine m = checks (isSemaphore m) (isMade (semaphore s m)) mine _ (λ _ _. needs (not (eqb (count s m) 0)) _ _ tt (λ _. counts m (count s m - 1) (maximum s m)))
+
+-- ---- every call
+pub way : (s : State) (c : Context) (a : Call) → Way s (kind a) (planned s c a)
+unfolding planned plan
+way s c (TaskCreate t p o) = way-create s (inT c) t p o
+way s c (TaskDelete t) = way-delete s (inT c) t
+way s c (TaskActivate t) = way-activate s (inT c) t
+way s c (TaskIactivate t) = way-activate s (inI c) t
+way s c TaskExit = way-exit s (inT c)
+way s c (TaskTerminate t) = way-terminate s (inT c) t
+way s c (TaskSuspend t) = way-suspend s (inT c) t
+way s c (TaskResume t) = way-resume s (inT c) t
+way s c (TaskSleep d) = way-sleep s (inT c) d
+way s c (TaskWakeup t) = way-wakeup s (inT c) t
+way s c (TaskIwakeup t) = way-wakeup s (inI c) t
+way s c (TaskReleaseWait t) = way-releaseWait s (inT c) t
+way s c (TaskIreleaseWait t) = way-releaseWait s (inI c) t
+way s c (TaskChangePriority t p) = way-changePriority s (inT c) t p
+way s c (SysTsliceTicks l v) = way-tsliceTicks s (inT c) l v
+way s c TickIntProcessing = way-tick s (inI c)
+way s c (SemCreate m n v) = way-semCreate s (inT c) m n v
+way s c (SemDelete m) = way-semDelete s (inT c) m
+way s c (SemSignal m) = way-signal s (inT c) m
+way s c (SemIsignal m) = way-signal s (inI c) m
+way s c (SemAcquire m d) = way-acquire s (inT c) m d
+way s c (SemPolling m) = way-polling s (inT c) m
+way s c (SemIpolling m) = way-polling s (inI c) m

@@ -1,0 +1,132 @@
+-- Demand 3, 'turns come round', over the transitions of demand 2: first for a semaphore's waiters, then for the runnable tasks of a level.
+-- It speaks of `step` and `Sound` of model, and is proved in proofs/Served and proofs/Turns.
+use mathlib.Core.Path.{_≡_}
+use mathlib.Core.Bool.{Bool, not, _&&_}
+use mathlib.Core.List.{List, [], _∷_}
+use Prim.Native.Nat.{ℕ, suc, _+_, _*_, _-_, _≤_}
+use lib.Dec.{T, eqb}
+use Rattle.model.specs.declared.State.{State}
+use Rattle.model.specs.declared.Context.{Context}
+use Rattle.model.specs.declared.Call.{Call}
+use Rattle.model.specs.Row.{place, firstOf}
+use Rattle.model.specs.Task.{nothing, served, timeout, dlt, released, levelOf, rowOf}
+use Rattle.model.specs.State.{task, slice, level, waiters, running}
+use Rattle.model.specs.Code.{isRefusal}
+use Rattle.model.specs.Call.{step}
+use Rattle.model.specs.Test.{one}
+use Rattle.model.specs.Sound.{Sound}
+use Rattle.turns.specs.Kind.{Kind, tick, exit, terminate, forcedRelease, setSlice, deletion, kind, isTick, isReleaseOf}
+
+-- ---- a call, with the context it comes from
+-- the state after it
+abbrev pub next : State → Context × Call → State
+next s a = step s (a .0) (a .1) .state
+
+-- one from the wrong context, or otherwise refused, changes nothing and counts for nothing
+abbrev pub isAccepted : State → Context × Call → Bool
+isAccepted s a = not (isRefusal (step s (a .0) (a .1) .code))
+
+-- it is accepted, and of this kind
+pub record Does (s : State) (a : Context × Call) (k : Kind) : Type 0 where
+  pub accepted : T (isAccepted s a)
+  pub is : kind (a .1) ≡ k
+
+-- a place in a queue counts from 1
+abbrev pub placeIn : List ℕ → ℕ → ℕ
+placeIn q t = place q t + 1
+
+-- ---- A: a task at place p of a semaphore's queue holds its resource no later than the p-th successful release,
+-- unless its wait ended sooner by timeout, forced release, termination or the semaphore's deletion
+abbrev pub isRelease : State → Context × Call → ℕ → Bool
+isRelease s a m = isAccepted s a && isReleaseOf m (kind (a .1))
+
+-- how many of the calls are successful releases of m
+unfoldable pub releases : State → List (Context × Call) → ℕ → ℕ
+releases s [] m = 0
+releases s (a ∷ rest) m = one (isRelease s a m) + releases (next s a) rest m
+
+abbrev pub WaitsOn : State → ℕ → ℕ → Type 0
+WaitsOn s m t = rowOf (task s t) ≡ m
+
+-- t waits for nothing, and its last wait ended with code v
+pub record Ended (s : State) (t v : ℕ) : Type 0 where
+  pub over : task s t .wait ≡ nothing
+  pub code : task s t .code ≡ v
+
+-- the call ends t's wait on m, and not by a release
+pub data EndsSooner (s : State) (a : Context × Call) (m t : ℕ) : Type 0 where
+  byTimeout : Does s a tick → Ended (next s a) t timeout → EndsSooner s a m t
+  byForcedRelease : Does s a (forcedRelease t) → Ended (next s a) t released → EndsSooner s a m t
+  byTermination : Does s a (terminate t) → task (next s a) t .wait ≡ nothing → EndsSooner s a m t
+  byDeletion : Does s a (deletion m) → Ended (next s a) t dlt → EndsSooner s a m t
+
+-- through these calls from s, t's wait on m ends by the n-th successful release of m, and until then t waits on m
+pub data HoldsBy (m t : ℕ) : ℕ → State → List (Context × Call) → Type 0 where
+  -- a successful release ends it with 0: t holds its resource
+  holds : {n : ℕ} {s : State} {a : Context × Call} {rest : List (Context × Call)}
+      → T (isRelease s a m) → Ended (next s a) t served → HoldsBy m t (suc n) s (a ∷ rest)
+  -- it ends otherwise
+  sooner : {n : ℕ} {s : State} {a : Context × Call} {rest : List (Context × Call)}
+      → EndsSooner s a m t → HoldsBy m t n s (a ∷ rest)
+  -- a successful release that t waits through is one of the n
+  passes : {n : ℕ} {s : State} {a : Context × Call} {rest : List (Context × Call)}
+      → T (isRelease s a m) → WaitsOn (next s a) m t → HoldsBy m t n (next s a) rest → HoldsBy m t (suc n) s (a ∷ rest)
+  -- any other call is not
+  waits : {n : ℕ} {s : State} {a : Context × Call} {rest : List (Context × Call)}
+      → T (not (isRelease s a m)) → WaitsOn (next s a) m t → HoldsBy m t n (next s a) rest → HoldsBy m t n s (a ∷ rest)
+
+abbrev pub WaitersAreServed : Type 0
+WaitersAreServed = (s : State) (calls : List (Context × Call)) (m t p : ℕ)
+    → Sound s
+    → 1 ≤ m → WaitsOn s m t → placeIn (waiters s m) t ≡ p
+    → p ≤ releases s calls m
+    → HoldsBy m t p s calls
+
+-- ---- B: a runnable task at place q of a level with slice v >= 1 has been first of its level by the time (q - 1) * v ticks were
+-- charged there, provided it stays runnable, isn't terminated, keeps its priority and no accepted call sets that slice
+-- a tick is charged to l: it is accepted, the task running as it came is of that level, and the slice is above 0
+abbrev pub isCharged : State → Context × Call → ℕ → Bool
+isCharged s a l = isAccepted s a && (isTick (kind (a .1)) && (eqb (levelOf (task s (running s))) l && not (eqb (slice s l) 0)))
+
+-- how many of the calls are ticks charged to l
+unfoldable pub charges : State → List (Context × Call) → ℕ → ℕ
+charges s [] l = 0
+charges s (a ∷ rest) l = one (isCharged s a l) + charges (next s a) rest l
+
+-- t is runnable, and l is its priority
+abbrev pub RunnableAt : State → ℕ → ℕ → Type 0
+RunnableAt s l t = levelOf (task s t) ≡ l
+
+abbrev pub IsFirst : State → ℕ → ℕ → Type 0
+IsFirst s l t = firstOf (s .levels) l ≡ t
+
+-- what is provided of a call; termination and exit may restart a task at once, by its activation count
+pub record Provided (s : State) (a : Context × Call) (l t : ℕ) : Type 0 where
+  pub stays : RunnableAt (next s a) l t
+  pub notTerminated : Does s a (terminate t) → ⊥
+  pub notExited : Does s a exit → running s ≡ t → ⊥
+  pub sliceKept : Does s a (setSlice l) → ⊥
+
+-- and of each of the calls
+pub data AllProvided (l t : ℕ) : State → List (Context × Call) → Type 0 where
+  none : {s : State} → AllProvided l t s []
+  each : {s : State} {a : Context × Call} {rest : List (Context × Call)} → Provided s a l t → AllProvided l t (next s a) rest → AllProvided l t s (a ∷ rest)
+
+-- through these calls from s, t is first of level l by the n-th tick charged to l
+pub data FirstBy (l t : ℕ) : ℕ → State → List (Context × Call) → Type 0 where
+  first : {n : ℕ} {s : State} {calls : List (Context × Call)} → IsFirst s l t → FirstBy l t n s calls
+  -- a tick charged to l is one of the n
+  charged : {n : ℕ} {s : State} {a : Context × Call} {rest : List (Context × Call)}
+      → T (isCharged s a l) → FirstBy l t n (next s a) rest → FirstBy l t (suc n) s (a ∷ rest)
+  -- any other call is not
+  later : {n : ℕ} {s : State} {a : Context × Call} {rest : List (Context × Call)}
+      → T (not (isCharged s a l)) → FirstBy l t n (next s a) rest → FirstBy l t n s (a ∷ rest)
+
+abbrev pub TurnsComeRound : Type 0
+TurnsComeRound = (s : State) (calls : List (Context × Call)) (l t q v : ℕ)
+    → Sound s
+    → 1 ≤ l → RunnableAt s l t → placeIn (level s l) t ≡ q
+    → slice s l ≡ v → 1 ≤ v
+    → AllProvided l t s calls
+    → (q - 1) * v ≤ charges s calls l
+    → FirstBy l t ((q - 1) * v) s calls
