@@ -4,3 +4,7 @@ pub mod Still
 pub mod Ends
 pub mod Outcome
 pub mod Served
+pub mod Levels
+pub mod Charged
+pub mod Nearer
+pub mod Turns

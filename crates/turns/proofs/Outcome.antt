@@ -1,11 +1,11 @@
 -- What a call does to a task that waits on a semaphore: it waits on, one place nearer at a release, or its wait ends in one of five ways.
 -- It goes by the ways of the plans (Ways), by the moves that leave a waiter where it is (Still) and by those that end its wait (Ends).
 use mathlib.Core.Path.{_≡_, refl, sym, ap, _∙_}
-use mathlib.Core.Bool.{Bool, true, false, cond, not, _&&_}
+use mathlib.Core.Bool.{not, _&&_}
 use mathlib.Core.Logic.{_⊎_, inl, inr, ⊎-elim}
 use Prim.Native.Nat.{ℕ, suc, _+_, _≤_, _<_, _%_, _^_}
 use native.Mathlib.Omega.{arith}
-use lib.Dec.{T, eqb, ltb, eqb-refl}
+use lib.Dec.{T, eqb-refl}
 use lib.ListN.{length}
 use Rattle.model.specs.declared.Task.{Task}
 use Rattle.model.specs.declared.State.{State}
@@ -14,9 +14,9 @@ use Rattle.model.specs.declared.Effect.{Effect}
 use Rattle.model.specs.declared.Effect.the-variants.{Nothing, Moves, Stops, Counts, Deletes, Slices, Ticks}
 use Rattle.model.specs.Row.{place, first, left, row, firstOf, relisted}
 use Rattle.model.specs.Task.{nothing, served, timeout, dlt, released, rowOf, ended, aged}
-use Rattle.model.specs.State.{task, slice, charge, waiters, running, moved, counted, sliced, withCharge, rotated, withTime}
+use Rattle.model.specs.State.{task, waiters, running, moved, counted, sliced, withTime}
 use Rattle.model.specs.Code.{isRefusal}
-use Rattle.model.specs.Effect.{deleted, chargedLevel, charged, lapsed, ticked, carried}
+use Rattle.model.specs.Effect.{deleted, charged, lapsed, ticked, carried}
 use Rattle.model.specs.Plan.{does}
 use Rattle.model.specs.Test.{one, occ}
 use Rattle.model.specs.Sound.{Sound}
@@ -35,9 +35,9 @@ use Rattle.turns.specs.Kind.{Kind, forcedRelease, release, deletion, isR
 use Rattle.turns.specs.Statements.{Ended}
 use Rattle.turns.proofs.Places.{place-served}
 use Rattle.turns.proofs.Ways as Ways
-use Rattle.turns.proofs.Ways.{Way}
+use Rattle.turns.proofs.Ways.{Way, refused-none, other-none}
 use Rattle.turns.proofs.Ends.{lapsed-at, aged-waits, stopped-at, ended-at}
-use Rattle.turns.proofs.Still.{task-moved, Keyed, Still, still-same, still-then, still-moved, still-stopped, still-ended, still-lapsed}
+use Rattle.turns.proofs.Still.{tasks-charged, task-moved, Keyed, Still, still-same, still-then, still-moved, still-stopped, still-ended, still-lapsed}
 
 on-waits : Keyed rowOf (λ s. s .waits)
 unfolding moved
@@ -76,32 +76,6 @@ in-range k (accepts c e n fit) = go (fit k)
     go (Effects.deletes m low top) = (low, top)
     go (Effects.slices l v low top) = tt
     go Effects.ticks = tt
-
--- a refusal, and a call that is no release, is no successful release
-no-release : (b d : Bool) → T b → one (not b && d) ≡ 0
-no-release true d h = refl
-no-release false d h = absurd h
-
-no-other : (b : Bool) → one (b && false) ≡ 0
-no-other true = refl
-no-other false = refl
-
--- a tick charges nobody's wait
-tasks-charged : (s : State) (run : ℕ) → (charged run s .tasks ≡ s .tasks) × (charged run s .waits ≡ s .waits)
-unfolding charged chargedLevel rotated
-tasks-charged s run = go (eqb run 0) (eqb (slice s (task s run .priority)) 0) (ltb (charge s (task s run .priority) + 1) (slice s (task s run .priority)))
-  where
-    l : ℕ
-    l = task s run .priority
-
-    z : Bool → Bool → Bool → State
-    z a b c = cond a s (cond b s (cond c (withCharge l (charge s l + 1) s) (rotated l (withCharge l 0 s))))
-
-    go : (a b c : Bool) → (z a b c .tasks ≡ s .tasks) × (z a b c .waits ≡ s .waits)
-    go true b c = (refl, refl)
-    go false true c = (refl, refl)
-    go false false true = (refl, refl)
-    go false false false = (refl, refl)
 
 module _ (s : State) (k : Sound s) (m t : ℕ) (h : 1 ≤ m) (e : rowOf (task s t) ≡ m) where
   low : 1 ≤ t
@@ -196,7 +170,7 @@ module _ (s : State) (k : Sound s) (m t : ℕ) (h : 1 ≤ m) (e : rowOf (task s 
 
   pub outcome : {j : Kind} {p : Plan} → Way s j p → InRange (p .effect) → Outcome s m t j p
   unfolding carried InRange counted sliced
-  outcome {j} (Ways.refuses c n) r = on same (no-release (isRefusal c) (isReleaseOf m j) n)
+  outcome {j} (Ways.refuses c n) r = on same (refused-none (isRefusal c) (isReleaseOf m j) n)
   outcome Ways.ticks r = ticking
   outcome Ways.exits r =
       on (still-stopped on-waits m t low s (running s) (λ z. omega (arith, row-waits (task s t) (omega arith), rw z at (runner s k (r .0) .idle))) e) refl
@@ -216,4 +190,4 @@ module _ (s : State) (k : Sound s) (m t : ℕ) (h : 1 ≤ m) (e : rowOf (task s 
   outcome Ways.keeps r = on same refl
   outcome (Ways.counts n c v) r = on (untouched (counted n c v s) refl refl) refl
   outcome (Ways.moves c u x n keeps) r =
-      on (moving u x (λ z. let y = ap (λ i. rowOf (task s i)) z ∙ e in keeps k (omega arith) ∙ y)) (no-other (not (isRefusal c)))
+      on (moving u x (λ z. let y = ap (λ i. rowOf (task s i)) z ∙ e in keeps k (omega arith) ∙ y)) (other-none (not (isRefusal c)))

@@ -32,6 +32,11 @@ place-tail x t p q h = go (eqb x t)
 pub place-first : (q : List ℕ) (t : ℕ) → 1 ≤ occ t q → place q t ≡ 0 → first q ≡ t
 place-first q t there e = rw e at (place-at t q (place-in t q there))
 
+pub first-place : (q : List ℕ) (t : ℕ) → first q ≡ t → place q t ≡ 0
+unfolding place
+first-place [] t e = refl
+first-place (x ∷ q) t e = rw (eq-eqb x t e)
+
 -- ---- a free place at the end
 place-last : (q : List ℕ) (t : ℕ) → place (q ++ (0 ∷ [])) t ≤ suc (place q t)
 unfolding place

@@ -1,12 +1,12 @@
 -- A task that keeps its key keeps its row and stands no later in it, whatever is moved, stopped, ended or lapsed.
 -- It goes by `moved` of model/specs/State alone, for levels and semaphores at once: a key, a table, and how a move relists it.
-use mathlib.Core.Path.{_≡_, sym, ap, _∙_, subst}
+use mathlib.Core.Path.{_≡_, refl, sym, ap, _∙_, subst}
 use mathlib.Core.Bool.{Bool, true, false, cond}
 use mathlib.Core.List.{List, [], _∷_}
 use mathlib.Core.Logic.{⊎-elim}
-use Prim.Native.Nat.{ℕ, zero, suc, _≤_, _<_}
+use Prim.Native.Nat.{ℕ, zero, suc, _+_, _≤_, _<_}
 use native.Mathlib.Omega.{arith}
-use lib.Dec.{eqb}
+use lib.Dec.{eqb, ltb}
 use lib.ListN.{length, length-set}
 use lib.Seq.{getD-set-same, getD-set-other, set-out}
 use borrow.Author.Tests.{eq-eqb, ne-eqb}
@@ -14,8 +14,8 @@ use Rattle.model.specs.declared.Task.{Task}
 use Rattle.model.specs.declared.State.{State}
 use Rattle.model.specs.Row.{place, row, relisted}
 use Rattle.model.specs.Task.{noTask, dormant, activated, ended, dlt, aged}
-use Rattle.model.specs.State.{task, moved}
-use Rattle.model.specs.Effect.{stopped, endedAll, lapsed}
+use Rattle.model.specs.State.{task, slice, charge, moved, withCharge, rotated}
+use Rattle.model.specs.Effect.{stopped, endedAll, chargedLevel, charged, lapsed}
 use Rattle.model.specs.Test.{occ}
 use Rattle.laws.proofs.Number.{same?, below?}
 use Rattle.laws.proofs.Occ.{occ-cons, one-eq}
@@ -44,6 +44,23 @@ task-either P s u x t here else = ⊎-elim
     (below? t (length (s .tasks))))
     (λ (apart : u ≡ t → ⊥). subst P (sym (task-kept s u x t apart)) else)
     (same? u t)
+
+-- a tick's charge moves no task and no waiter
+pub tasks-charged : (s : State) (run : ℕ) → (charged run s .tasks ≡ s .tasks) × (charged run s .waits ≡ s .waits)
+unfolding charged chargedLevel rotated
+tasks-charged s run = go (eqb run 0) (eqb (slice s (task s run .priority)) 0) (ltb (charge s (task s run .priority) + 1) (slice s (task s run .priority)))
+  where
+    l : ℕ
+    l = task s run .priority
+
+    z : Bool → Bool → Bool → State
+    z a b c = cond a s (cond b s (cond c (withCharge l (charge s l + 1) s) (rotated l (withCharge l 0 s))))
+
+    go : (a b c : Bool) → (z a b c .tasks ≡ s .tasks) × (z a b c .waits ≡ s .waits)
+    go true b c = (refl, refl)
+    go false true c = (refl, refl)
+    go false false true = (refl, refl)
+    go false false false = (refl, refl)
 
 -- ---- a key and its table
 pub record Keyed (key : Task → ℕ) (table : State → List ℕ) : Type 0 where

@@ -22,6 +22,7 @@ use Rattle.model.specs.Code.{isRefusal}
 use Rattle.model.specs.Plan.{isTask, isPriority, isSemaphore, isMaximum, isTimeout, isSlice, isMade, does, answers, refused, need, checked}
 use Rattle.model.specs.Service.{create, delete, activate, exit, terminate, suspend, resume, sleep, wakeup, releaseWait, wanted, changePriority, tsliceTicks, tick, semCreate, semDelete, signal, acquire, polling}
 use Rattle.model.specs.Call.{inT, inI, plan, planned}
+use Rattle.model.specs.Test.{one}
 use Rattle.model.specs.Sound.{SoundTask, Sound}
 use Rattle.laws.proofs.Padded.{both}
 use Rattle.kept.proofs.Records.{some-of, none-of, row-waits}
@@ -44,6 +45,15 @@ pub data Way (s : State) : Kind → Plan → Type 0 where
   keeps : Way s other (does Nothing)
   counts : (m n v : ℕ) → Way s other (does (Counts m n v))
   moves : (c : Code) (u : ℕ) (x : Task) → T (not (isRefusal c)) → (Sound s → 1 ≤ rowOf (task s u) → rowOf x ≡ rowOf (task s u)) → Way s other (answers c (Moves u x))
+
+-- ---- what counts: nothing of a refusal, and nothing of a call of another kind
+pub refused-none : (b d : Bool) → T b → one (not b && d) ≡ 0
+refused-none true d h = refl
+refused-none false d h = absurd h
+
+pub other-none : (b : Bool) → one (b && false) ≡ 0
+other-none true = refl
+other-none false = refl
 
 -- ---- the tests of a plan
 module _ {s : State} {k : Kind} where

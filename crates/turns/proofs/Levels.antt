@@ -1,0 +1,108 @@
+-- The levels of records, the tables of slices and charges, and what it is to come nearer to the first place of a level.
+-- It rests on the records of model/specs/Task, the effects of model/specs/Effect and the moves of Still.
+use mathlib.Core.Path.{_≡_, refl, _∙_}
+use mathlib.Core.Bool.{Bool, true, false, cond}
+use mathlib.Core.List.{List, [], _∷_}
+use Prim.Native.Nat.{ℕ, zero, suc, _+_, _*_, _-_, _≤_}
+use native.Mathlib.Omega.{arith}
+use native.Mathlib.Nat.{mul-le-mul-right}
+use lib.Dec.{eqb}
+use Rattle.model.specs.declared.Task.{Task}
+use Rattle.model.specs.declared.State.{State}
+use Rattle.model.specs.Row.{place}
+use Rattle.model.specs.Task.{isRunnable, isTimed, ranOut, dlt, levelOf, noTask, dormant, activated, ended, withRemaining, aged}
+use Rattle.model.specs.State.{task, slice, charge, level, moved}
+use Rattle.model.specs.Effect.{stopped, endedAll, lapsed}
+use Rattle.model.specs.Sound.{SoundTask}
+use Rattle.kept.proofs.Records.{level-live, live-made}
+use Rattle.turns.proofs.Still.{Keyed, Still}
+
+pub on-levels : Keyed levelOf (λ s. s .levels)
+unfolding moved
+on-levels = record { relists = λ s u x. refl }
+
+-- ---- levels of records
+pub level-priority : (x : Task) → 1 ≤ levelOf x → levelOf x ≡ x .priority
+unfolding levelOf
+level-priority x h = go (isRunnable x) h
+  where
+    go : (b : Bool) → 1 ≤ cond b (x .priority) 0 → cond b (x .priority) 0 ≡ x .priority
+    go true h = refl
+    go false h = absurd (omega arith)
+
+pub level-none : levelOf noTask ≡ 0
+unfolding levelOf
+level-none = refl
+
+pub level-top : (x : Task) → SoundTask x → 1 ≤ levelOf x → levelOf x ≤ 30
+level-top x k h = omega (arith, level-priority x h, k .priority (live-made x k (level-live x h .0)))
+
+-- a runnable task waits for nothing, so the end of a wait and a tick leave it in its level
+pub level-ended : (x : Task) (v : ℕ) → 1 ≤ levelOf x → levelOf (ended x v) ≡ levelOf x
+level-ended x v h = let e = level-live x h .1 in unfold levelOf in rw e
+
+pub level-aged : (x : Task) → 1 ≤ levelOf x → levelOf (aged x) ≡ levelOf x
+unfolding aged
+level-aged x h = go (isTimed x) (eqb (x .remaining) 1)
+  where
+    go : (a b : Bool) → levelOf (cond a (cond b (ended x (ranOut x)) (withRemaining x (x .remaining - 1))) x) ≡ levelOf x
+    go true true = level-ended x (ranOut x) h
+    go true false = unfold levelOf in refl
+    go false b = refl
+
+-- ---- the slices and charges stay where only tasks move
+pub record Rates (s s′ : State) : Type 0 where
+  pub slices : s′ .slices ≡ s .slices
+  pub charges : s′ .charges ≡ s .charges
+
+pub rates-moved : (s : State) (u : ℕ) (x : Task) → Rates s (moved u x s)
+unfolding moved
+rates-moved s u x = record { slices = refl; charges = refl }
+
+pub rates-then : {s₁ s₂ s₃ : State} → Rates s₁ s₂ → Rates s₂ s₃ → Rates s₁ s₃
+rates-then a b = record { slices = b .slices ∙ a .slices; charges = b .charges ∙ a .charges }
+
+pub rates-stopped : (s : State) (u : ℕ) → Rates s (stopped u s)
+unfolding stopped
+rates-stopped s u = go (eqb (task s u .activations) 0)
+  where
+    x : Task
+    x = dormant (task s u .base)
+
+    go : (b : Bool) → Rates s (cond b (moved u x s) (moved u (activated x) (moved u x s)))
+    go true = rates-moved s u x
+    go false = rates-then (rates-moved s u x) (rates-moved (moved u x s) u (activated x))
+
+pub rates-ended : (q : List ℕ) (s : State) → Rates s (endedAll q s)
+unfolding endedAll
+rates-ended [] s = record { slices = refl; charges = refl }
+rates-ended (u ∷ q) s = go (eqb u 0) (rates-ended q (moved u (ended (task s u) dlt) s))
+  where
+    z : State
+    z = moved u (ended (task s u) dlt) s
+
+    go : (b : Bool) → Rates z (endedAll q z) → Rates s (cond b s (endedAll q z))
+    go true more = record { slices = refl; charges = refl }
+    go false more = rates-then (rates-moved s u (ended (task s u) dlt)) more
+
+pub rates-lapsed : (n i : ℕ) (s : State) → Rates s (lapsed n i s)
+unfolding lapsed
+rates-lapsed zero i s = record { slices = refl; charges = refl }
+rates-lapsed (suc n) i s = rates-then (rates-moved s i (aged (task s i))) (rates-lapsed n (suc i) (moved i (aged (task s i)) s))
+
+-- ---- nearer
+pub record Nearer (l t : ℕ) (s s′ : State) (d : ℕ) : Type 0 where
+  pub steady : slice s′ l ≡ slice s l
+  pub falls : place (level s′ l) t * slice s l + (d + charge s l) ≤ place (level s l) t * slice s l + charge s′ l
+
+pub nearer-still : {l t : ℕ} {s s′ : State} → Still levelOf (λ z. z .levels) l t s s′ → Rates s s′ → Nearer l t s s′ 0
+nearer-still {l} {t} {s} {s′} a r = record {
+  steady = rw (r .slices);
+  falls = rw (r .charges) (omega (arith, mul-le-mul-right (slice s l) (a .nearer)));
+}
+
+pub nearer-then : {l t : ℕ} {s₁ s₂ s₃ : State} {d : ℕ} → Nearer l t s₁ s₂ d → Nearer l t s₂ s₃ 0 → Nearer l t s₁ s₃ d
+nearer-then {l} {t} {s₁} {s₂} {s₃} {d} a b = record {
+  steady = b .steady ∙ a .steady;
+  falls = let c = rw (a .steady) at (b .falls) in omega (arith, c, a .falls);
+}

@@ -1,0 +1,100 @@
+-- What a call does to a runnable task that keeps its level: its place times the slice falls behind the charge, by one more at a charged tick.
+-- It goes by the ways of the plans (Ways), the moves that leave a task where it is (Still) and a tick's own part (Charged).
+use mathlib.Core.Path.{_≡_, refl, sym, ap, _∙_}
+use mathlib.Core.Bool.{not, _&&_}
+use Prim.Native.Nat.{ℕ, _+_, _≤_, _%_, _^_}
+use native.Mathlib.Omega.{arith}
+use lib.Dec.{T, eqb}
+use lib.Seq.{getD-set-other}
+use Rattle.model.specs.declared.Task.{Task}
+use Rattle.model.specs.declared.State.{State}
+use Rattle.model.specs.declared.Plan.{Plan}
+use Rattle.model.specs.Row.{place, first, firstOf}
+use Rattle.model.specs.Task.{served, dlt, released, levelOf, ended, aged}
+use Rattle.model.specs.State.{task, slice, level, waiters, running, moved, counted, sliced, withTime}
+use Rattle.model.specs.Code.{isRefusal}
+use Rattle.model.specs.Effect.{stopped, deleted, charged, ticked, carried}
+use Rattle.model.specs.Test.{one}
+use Rattle.model.specs.Sound.{Sound}
+use Rattle.kept.specs.Statements.{stands}
+use Rattle.kept.proofs.Changes.{sound-withTime}
+use Rattle.turns.specs.Kind as Kinds
+use Rattle.turns.specs.Kind.{Kind, setSlice, isTick}
+use Rattle.turns.proofs.Ways as Ways
+use Rattle.turns.proofs.Ways.{Way, refused-none, other-none}
+use Rattle.turns.proofs.Still.{tasks-charged, task-moved, still-moved, still-stopped, still-ended, still-lapsed}
+use Rattle.turns.proofs.Levels.{on-levels, level-ended, level-aged, rates-moved, rates-stopped, rates-ended, rates-lapsed, Nearer, nearer-still, nearer-then}
+use Rattle.turns.proofs.Charged.{low, long, nearer-charged}
+
+-- a call of kind j is not a termination of t, nor its exit, and does not set the slice of l
+pub record Spared (s : State) (l t : ℕ) (j : Kind) : Type 0 where
+  pub alive : j ≡ Kinds.terminate t → ⊥
+  pub stays : j ≡ Kinds.exit → running s ≡ t → ⊥
+  pub unset : j ≡ setSlice l → ⊥
+
+module _ (s : State) (k : Sound s) (l t : ℕ) (h : 1 ≤ l) (e : levelOf (task s t) ≡ l) where
+  same : Nearer l t s s 0
+  same = record { steady = refl; falls = omega arith }
+
+  -- another's record changes, or its own in its level
+  moving : (u : ℕ) (x : Task) → (u ≡ t → levelOf x ≡ l) → Nearer l t s (moved u x s) 0
+  moving u x keeps = nearer-still (still-moved on-levels l t (low s k l t h e) s u x e keeps) (rates-moved s u x)
+
+  ending : (u v : ℕ) → Nearer l t s (moved u (ended (task s u) v) s) 0
+  ending u v = moving u (ended (task s u) v) (λ z. rw z (level-ended (task s t) v (omega arith) ∙ e))
+
+  stopping : (u : ℕ) → (u ≡ t → ⊥) → Nearer l t s (stopped u s) 0
+  stopping u apart = nearer-still (still-stopped on-levels l t (low s k l t h e) s u apart e) (rates-stopped s u)
+
+  deleting : (n : ℕ) → Nearer l t s (deleted n s) 0
+  unfolding deleted counted
+  deleting n =
+      let a = nearer-still (still-ended on-levels l t (low s k l t h e) (waiters s n) s (λ there x z. level-ended x dlt (omega arith) ∙ z) e) (rates-ended (waiters s n) s) in
+      record { steady = a .steady; falls = a .falls }
+
+  slicing : (j v : ℕ) → (j ≡ l → ⊥) → Nearer l t s (sliced j v s) 0
+  unfolding sliced
+  slicing j v other = record {
+    steady = getD-set-other (s .slices) j l v 0 (λ z. other (sym z));
+    falls = rw (getD-set-other (s .charges) j l 0 0 (λ z. other (sym z))) (omega arith);
+  }
+
+  ticking : 1 ≤ slice s l → 1 ≤ place (level s l) t → Nearer l t s (ticked s) (one (eqb (levelOf (task s (running s))) l && not (eqb (slice s l) 0)))
+  unfolding ticked running
+  ticking some behind = nearer-then (record { steady = a .steady; falls = a .falls }) (nearer-still (still-lapsed on-levels l t (low s k l t h e) 24 1 z (λ _. aging) stands) (rates-lapsed 24 1 z))
+    where
+      n : ℕ
+      n = (s .time + 1) % 2 ^ 32
+
+      z : State
+      z = charged (running s) (withTime n s)
+
+      a : Nearer l t (withTime n s) z (one (eqb (levelOf (task s (running s))) l && not (eqb (slice s l) 0)))
+      a = nearer-charged (withTime n s) (sound-withTime s n k) l t h e some behind
+
+      at : task z t ≡ task s t
+      at = rw (tasks-charged (withTime n s) (running s) .0)
+
+      stands : levelOf (task z t) ≡ l
+      stands = rw at e
+
+      aging : levelOf (aged (task z t)) ≡ l
+      aging = level-aged (task z t) (omega (arith, stands)) ∙ stands
+
+  pub nearer : {j : Kind} {p : Plan} → Way s j p → (T (not (isRefusal (p .code))) → Spared s l t j) → levelOf (task (carried s (p .effect)) t) ≡ l → 1 ≤ slice s l → 1 ≤ place (level s l) t
+      → Nearer l t s (carried s (p .effect)) (one (not (isRefusal (p .code)) && (isTick j && (eqb (levelOf (task s (running s))) l && not (eqb (slice s l) 0)))))
+  unfolding carried counted
+  nearer {j} (Ways.refuses c n) spared after some behind = rw (refused-none (isRefusal c) (isTick j && (eqb (levelOf (task s (running s))) l && not (eqb (slice s l) 0))) n) same
+  nearer Ways.ticks spared after some behind = ticking some behind
+  nearer Ways.exits spared after some behind = stopping (running s) (spared tt .stays refl)
+  nearer (Ways.terminates u) spared after some behind = stopping u (λ z. spared tt .alive (ap Kinds.terminate z))
+  nearer (Ways.forces u) spared after some behind = ending u released
+  nearer (Ways.slices i v) spared after some behind = slicing i v (λ z. spared tt .unset (ap setSlice z))
+  nearer (Ways.serves n top first) spared after some behind = ending (firstOf (s .waits) n) served
+  nearer (Ways.raises n c v top free) spared after some behind = record { steady = refl; falls = omega arith }
+  nearer (Ways.deletes n) spared after some behind = deleting n
+  nearer Ways.keeps spared after some behind = same
+  nearer (Ways.counts n c v) spared after some behind = record { steady = refl; falls = omega arith }
+  nearer (Ways.moves c u x n keeps) spared after some behind =
+      rw (other-none (not (isRefusal c)))
+      (moving u x (λ z. ap levelOf (sym (ap (λ i. task (moved i x s) t) z ∙ task-moved s t x (long s k l t h e))) ∙ after))
