@@ -1,6 +1,6 @@
 -- A tick's own part: the running task's level is charged, and turned at its slice; so who stands in that level comes one tick nearer.
 -- It rests on `charged` of model/specs/Effect, on who runs (kept) and on where a task stands in a turned row (Places).
-use mathlib.Core.Path.{_≡_, refl, sym}
+use mathlib.Core.Path.{_≡_, refl, sym, _∙_}
 use mathlib.Core.Bool.{Bool, true, false, cond, not, _&&_}
 use mathlib.Core.Logic.{⊎-elim}
 use Prim.Native.Nat.{ℕ, _+_, _≤_, _<_}
@@ -11,7 +11,7 @@ use lib.ListN.{length}
 use lib.Seq.{getD-set-same, getD-set-other}
 use borrow.Author.Tests.{eq-eqb, ne-eqb}
 use Rattle.model.specs.declared.State.{State}
-use Rattle.model.specs.Row.{place, turned}
+use Rattle.model.specs.Row.{place, turned, firstOf}
 use Rattle.model.specs.Task.{levelOf}
 use Rattle.model.specs.State.{task, slice, charge, level, running, withCharge, rotated}
 use Rattle.model.specs.Effect.{chargedLevel, charged}
@@ -19,7 +19,7 @@ use Rattle.model.specs.Test.{one, occ}
 use Rattle.model.specs.Sound.{Sound}
 use Rattle.laws.proofs.Number.{same?}
 use Rattle.laws.proofs.Row.{length-turned}
-use Rattle.laws.proofs.Table.{row-withRow-same, row-withRow-other}
+use Rattle.laws.proofs.Table.{first-row, row-withRow-same, row-withRow-other}
 use Rattle.kept.specs.Statements.{Runs, nobody, stands}
 use Rattle.kept.proofs.Listed.{key-first, listed-in}
 use Rattle.kept.proofs.Changes.{task-in}
@@ -77,32 +77,38 @@ module _ (s : State) (k : Sound s) (l t : ℕ) (h : 1 ≤ l) (e : levelOf (task 
         falls = rw (kept 0, row-withRow-other (s .levels) j (turned (level s j)) (length-turned (level s j)) l (λ z. other (sym z))) (omega arith);
       }
 
-  -- who runs is of the level of its priority, and 0 of none
+  -- who runs is first of the level of its priority
+  runs : {u : ℕ} → Runs s u → (u ≡ 0 → ⊥) → (levelOf (task s u) ≡ task s u .priority) × (firstOf (s .levels) (levelOf (task s u)) ≡ u)
+  runs (nobody all) some = absurd (some refl)
+  runs (stands i u low top one f all) some =
+      let z : levelOf (task s u) ≡ i = rw f at (key-first (s .levels) 31 (λ u. levelOf (task s u)) (k .levels) i (omega arith) (λ z. omega arith) .1) in
+      (level-priority (task s u) (omega arith), rw z f)
+
   running-level : (running s ≡ 0 → ⊥) → levelOf (task s (running s)) ≡ task s (running s) .priority
-  running-level some = go (runs-first s k) some
-    where
-      go : {u : ℕ} → Runs s u → (u ≡ 0 → ⊥) → levelOf (task s u) ≡ task s u .priority
-      go (nobody all) some = absurd (some refl)
-      go (stands i u low top one f all) some =
-          let z : levelOf (task s u) ≡ i = rw f at (key-first (s .levels) 31 (λ u. levelOf (task s u)) (k .levels) i (omega arith) (λ z. omega arith) .1) in
-          level-priority (task s u) (omega arith)
+  running-level some = runs (runs-first s k) some .0
+
+  -- so who is not first does not run
+  pub runs-not : 1 ≤ place (level s l) t → running s ≡ t → ⊥
+  runs-not behind z =
+      let f : firstOf (s .levels) l ≡ t = rw (z, e) at (runs (runs-first s k) (λ y. omega (arith, low)) .1) in
+      omega (arith, first-place (level s l) t (sym (first-row (s .levels) l) ∙ f))
 
   pub nearer-charged : 1 ≤ slice s l → 1 ≤ place (level s l) t
       → Nearer l t s (charged (running s) s) (one (eqb (levelOf (task s (running s))) l && not (eqb (slice s l) 0)))
   unfolding charged
   nearer-charged some behind = ⊎-elim
-      (λ (z : running s ≡ 0). rw (eq-eqb (running s) 0 z) (none z))
-      (λ (n : running s ≡ 0 → ⊥). rw (ne-eqb (running s) 0 n) (runs (running-level n)))
+      (λ (z : running s ≡ 0). rw (eq-eqb (running s) 0 z) (idle z))
+      (λ (n : running s ≡ 0 → ⊥). rw (ne-eqb (running s) 0 n) (someone (running-level n)))
       (same? (running s) 0)
     where
       d : ℕ
       d = one (eqb (levelOf (task s (running s))) l && not (eqb (slice s l) 0))
 
-      none : running s ≡ 0 → Nearer l t s s d
-      none z = rw (z, k .origin .0, level-none, ne-eqb 0 l (λ y. omega arith)) (record { steady = refl; falls = omega arith })
+      idle : running s ≡ 0 → Nearer l t s s d
+      idle z = rw (z, k .origin .0, level-none, ne-eqb 0 l (λ y. omega arith)) (record { steady = refl; falls = omega arith })
 
-      runs : levelOf (task s (running s)) ≡ task s (running s) .priority → Nearer l t s (chargedLevel (task s (running s) .priority) s) d
-      runs f = rw f (⊎-elim
+      someone : levelOf (task s (running s)) ≡ task s (running s) .priority → Nearer l t s (chargedLevel (task s (running s) .priority) s) d
+      someone f = rw f (⊎-elim
           (λ (y : task s (running s) .priority ≡ l). rw (y, eq-eqb l l refl, ne-eqb (slice s l) 0 (λ z. omega arith)) (charged-own some behind))
           (λ (other : task s (running s) .priority ≡ l → ⊥). rw (ne-eqb (task s (running s) .priority) l other) (charged-other (task s (running s) .priority) other))
           (same? (task s (running s) .priority) l))

@@ -1,20 +1,21 @@
 -- The levels of records, the tables of slices and charges, and what it is to come nearer to the first place of a level.
 -- It rests on the records of model/specs/Task, the effects of model/specs/Effect and the moves of Still.
 use mathlib.Core.Path.{_≡_, refl, _∙_}
-use mathlib.Core.Bool.{Bool, true, false, cond}
+use mathlib.Core.Bool.{Bool, true, false, cond, not, _&&_}
 use mathlib.Core.List.{List, [], _∷_}
 use Prim.Native.Nat.{ℕ, zero, suc, _+_, _*_, _-_, _≤_}
 use native.Mathlib.Omega.{arith}
 use native.Mathlib.Nat.{mul-le-mul-right}
-use lib.Dec.{eqb}
+use lib.Dec.{T, eqb}
 use Rattle.model.specs.declared.Task.{Task}
 use Rattle.model.specs.declared.State.{State}
 use Rattle.model.specs.Row.{place}
-use Rattle.model.specs.Task.{isRunnable, isTimed, ranOut, dlt, levelOf, noTask, dormant, activated, ended, withRemaining, aged}
+use Rattle.model.specs.Task.{isDormant, isSuspended, isWaiting, isRunnable, isTimed, ranOut, dlt, levelOf, noTask, dormant, activated, ended, withRemaining, aged}
 use Rattle.model.specs.State.{task, slice, charge, level, moved}
 use Rattle.model.specs.Effect.{stopped, endedAll, lapsed}
 use Rattle.model.specs.Sound.{SoundTask}
-use Rattle.kept.proofs.Records.{level-live, live-made}
+use Rattle.laws.proofs.Padded.{both}
+use Rattle.kept.proofs.Records.{some-of, level-live, live-made}
 use Rattle.turns.proofs.Still.{Keyed, Still}
 
 pub on-levels : Keyed levelOf (λ s. s .levels)
@@ -29,6 +30,18 @@ level-priority x h = go (isRunnable x) h
     go : (b : Bool) → 1 ≤ cond b (x .priority) 0 → cond b (x .priority) 0 ≡ x .priority
     go true h = refl
     go false h = absurd (omega arith)
+
+pub level-runnable : (x : Task) (l : ℕ) → T (isRunnable x) → x .priority ≡ l → levelOf x ≡ l
+unfolding levelOf
+level-runnable x l h e = go (isRunnable x) h
+  where
+    go : (b : Bool) → T b → cond b (x .priority) 0 ≡ l
+    go true h = e
+    go false h = absurd h
+
+-- a runnable task has a level
+pub level-some : (x : Task) → SoundTask x → T (isRunnable x) → 1 ≤ x .priority
+level-some x k h = k .priority (live-made x k (some-of (x .active) (both (not (isDormant x)) (not (isSuspended x) && not (isWaiting x)) h .0))) .0
 
 pub level-none : levelOf noTask ≡ 0
 unfolding levelOf

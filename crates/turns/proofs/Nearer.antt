@@ -24,12 +24,11 @@ use Rattle.turns.proofs.Ways as Ways
 use Rattle.turns.proofs.Ways.{Way, refused-none, other-none}
 use Rattle.turns.proofs.Still.{tasks-charged, task-moved, still-moved, still-stopped, still-ended, still-lapsed}
 use Rattle.turns.proofs.Levels.{on-levels, level-ended, level-aged, rates-moved, rates-stopped, rates-ended, rates-lapsed, Nearer, nearer-still, nearer-then}
-use Rattle.turns.proofs.Charged.{low, long, nearer-charged}
+use Rattle.turns.proofs.Charged.{low, long, runs-not, nearer-charged}
 
--- a call of kind j is not a termination of t, nor its exit, and does not set the slice of l
-pub record Spared (s : State) (l t : ℕ) (j : Kind) : Type 0 where
+-- a call of kind j is not a termination of t, and does not set the slice of l
+pub record Spared (l t : ℕ) (j : Kind) : Type 0 where
   pub alive : j ≡ Kinds.terminate t → ⊥
-  pub stays : j ≡ Kinds.exit → running s ≡ t → ⊥
   pub unset : j ≡ setSlice l → ⊥
 
 module _ (s : State) (k : Sound s) (l t : ℕ) (h : 1 ≤ l) (e : levelOf (task s t) ≡ l) where
@@ -81,12 +80,12 @@ module _ (s : State) (k : Sound s) (l t : ℕ) (h : 1 ≤ l) (e : levelOf (task 
       aging : levelOf (aged (task z t)) ≡ l
       aging = level-aged (task z t) (omega (arith, stands)) ∙ stands
 
-  pub nearer : {j : Kind} {p : Plan} → Way s j p → (T (not (isRefusal (p .code))) → Spared s l t j) → levelOf (task (carried s (p .effect)) t) ≡ l → 1 ≤ slice s l → 1 ≤ place (level s l) t
+  pub nearer : {j : Kind} {p : Plan} → Way s j p → (T (not (isRefusal (p .code))) → Spared l t j) → levelOf (task (carried s (p .effect)) t) ≡ l → 1 ≤ slice s l → 1 ≤ place (level s l) t
       → Nearer l t s (carried s (p .effect)) (one (not (isRefusal (p .code)) && (isTick j && (eqb (levelOf (task s (running s))) l && not (eqb (slice s l) 0)))))
   unfolding carried counted
   nearer {j} (Ways.refuses c n) spared after some behind = rw (refused-none (isRefusal c) (isTick j && (eqb (levelOf (task s (running s))) l && not (eqb (slice s l) 0))) n) same
   nearer Ways.ticks spared after some behind = ticking some behind
-  nearer Ways.exits spared after some behind = stopping (running s) (spared tt .stays refl)
+  nearer Ways.exits spared after some behind = stopping (running s) (runs-not s k l t h e behind)
   nearer (Ways.terminates u) spared after some behind = stopping u (λ z. spared tt .alive (ap Kinds.terminate z))
   nearer (Ways.forces u) spared after some behind = ending u released
   nearer (Ways.slices i v) spared after some behind = slicing i v (λ z. spared tt .unset (ap setSlice z))

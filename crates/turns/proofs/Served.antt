@@ -10,7 +10,6 @@ use Rattle.model.specs.declared.State.{State}
 use Rattle.model.specs.declared.Context.{Context}
 use Rattle.model.specs.declared.Call.{Call}
 use Rattle.model.specs.Row.{place}
-use Rattle.model.specs.Task.{served}
 use Rattle.model.specs.State.{waiters}
 use Rattle.model.specs.Call.{planned, step}
 use Rattle.model.specs.Test.{one}
@@ -19,7 +18,7 @@ use Rattle.kept.proofs.Shapes.{shape}
 use Rattle.kept.proofs.Kept.{sound-stays-sound}
 use Rattle.turns.specs.Kind.{kind}
 use Rattle.turns.specs.Statements as Say
-use Rattle.turns.specs.Statements.{next, isRelease, releases, WaitsOn, Ended, HoldsBy, WaitersAreServed}
+use Rattle.turns.specs.Statements.{next, isRelease, releases, WaitsOn, HoldsBy, WaitersAreServed}
 use Rattle.turns.proofs.Ways.{way}
 use Rattle.turns.proofs.Outcome.{Outcome, waits, holds, lapses, forced, stops, deletes, in-range, outcome}
 
@@ -37,19 +36,20 @@ held m t h (a ∷ rest) s n k e turn enough =
     goes true (suc n) y w turn enough more = let r : T (isRelease s a m) = rw y tt in Say.passes r w (more n w (omega arith) (omega arith))
     goes false (suc n) y w turn enough more = let r : T (not (isRelease s a m)) = rw y tt in Say.waits r w (more (suc n) w (omega arith) (omega arith))
 
-    serves : (n : ℕ) → 1 ≤ n → T (isRelease s a m) → Ended (next s a) t served → HoldsBy m t n s (a ∷ rest)
-    serves zero some r d = absurd (omega arith)
-    serves (suc n) some r d = Say.holds r d
+    -- a turn that is still to come is not the 0-th
+    some : (n : ℕ) → 1 ≤ n → ((j : ℕ) → HoldsBy m t (suc j) s (a ∷ rest)) → HoldsBy m t n s (a ∷ rest)
+    some zero low here = absurd (omega arith)
+    some (suc j) low here = here j
 
     go : Outcome s m t (kind (a .1)) (planned s (a .0) (a .1))
         → ((j : ℕ) → WaitsOn (next s a) m t → place (waiters (next s a) m) t + 1 ≤ j → j ≤ releases (next s a) rest m → HoldsBy m t j (next s a) rest)
         → HoldsBy m t n s (a ∷ rest)
     go (waits w p) more = goes (isRelease s a m) n refl w (omega arith) enough more
-    go (holds r d) more = serves n (omega arith) r d
-    go (lapses ok y d) more = Say.sooner (Say.byTimeout (record { accepted = ok; is = y }) d)
-    go (forced ok y d) more = Say.sooner (Say.byForcedRelease (record { accepted = ok; is = y }) d)
-    go (stops ok y d) more = Say.sooner (Say.byTermination (record { accepted = ok; is = y }) d)
-    go (deletes ok y d) more = Say.sooner (Say.byDeletion (record { accepted = ok; is = y }) d)
+    go (holds r d) more = some n (omega arith) (λ j. Say.holds r d)
+    go (lapses ok y d) more = some n (omega arith) (λ j. Say.sooner (Say.byTimeout (record { accepted = ok; is = y }) d))
+    go (forced ok y d) more = some n (omega arith) (λ j. Say.sooner (Say.byForcedRelease (record { accepted = ok; is = y }) d))
+    go (stops ok y d) more = some n (omega arith) (λ j. Say.sooner (Say.byTermination (record { accepted = ok; is = y }) d))
+    go (deletes ok y d) more = some n (omega arith) (λ j. Say.sooner (Say.byDeletion (record { accepted = ok; is = y }) d))
 
 pub waiters-are-served : WaitersAreServed
 waiters-are-served s calls m t p k h e y enough = held m t h calls s p k e (omega arith) enough

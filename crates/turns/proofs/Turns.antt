@@ -12,7 +12,8 @@ use Rattle.model.specs.declared.State.{State}
 use Rattle.model.specs.declared.Context.{Context}
 use Rattle.model.specs.declared.Call.{Call}
 use Rattle.model.specs.Row.{place}
-use Rattle.model.specs.State.{slice, charge, level}
+use Rattle.model.specs.State.{task, slice, charge, level}
+use Rattle.model.specs.Task.{levelOf}
 use Rattle.model.specs.Call.{step}
 use Rattle.model.specs.Test.{one}
 use Rattle.model.specs.Sound.{Sound}
@@ -20,15 +21,15 @@ use Rattle.laws.proofs.Number.{same?}
 use Rattle.laws.proofs.Table.{first-row}
 use Rattle.kept.proofs.Kept.{sound-stays-sound}
 use Rattle.turns.specs.Statements as Say
-use Rattle.turns.specs.Statements.{next, isCharged, charges, RunnableAt, IsFirst, Provided, AllProvided, each, FirstBy, TurnsComeRound}
+use Rattle.turns.specs.Statements.{next, isCharged, charges, IsFirst, StaysRunnable, NotTerminated, KeepsPriority, SliceNotSet, Each, none, each, FirstBy, TurnsComeRound}
 use Rattle.turns.proofs.Places.{place-first}
 use Rattle.turns.proofs.Ways.{way}
-use Rattle.turns.proofs.Levels.{Nearer}
+use Rattle.turns.proofs.Levels.{level-runnable, level-some, Nearer}
 use Rattle.turns.proofs.Charged.{listed}
 use Rattle.turns.proofs.Nearer.{nearer}
 
 module _ (l t : ℕ) (h : 1 ≤ l) where
-  is-first : (s : State) → Sound s → RunnableAt s l t → place (level s l) t ≡ 0 → IsFirst s l t
+  is-first : (s : State) → Sound s → levelOf (task s t) ≡ l → place (level s l) t ≡ 0 → IsFirst s l t
   is-first s k e z = first-row (s .levels) l ∙ place-first (level s l) t (omega (arith, listed s k l t h e)) z
 
   -- who is not first is a whole slice behind, and the charge is below the slice
@@ -37,40 +38,43 @@ module _ (l t : ℕ) (h : 1 ≤ l) where
       let below : charge s l < slice s l = ⊎-elim (λ c. c) (λ c. absurd (omega arith)) (k .charges l) in
       omega (arith, mul-le-mul-right {m = 1} {n = place (level s l) t} (slice s l) (omega arith))
 
-  per-call : (s : State) → Sound s → RunnableAt s l t → (a : Context × Call) → Provided s a l t → 1 ≤ slice s l → 1 ≤ place (level s l) t
-      → Nearer l t s (next s a) (one (isCharged s a l))
+  per-call : (s : State) → Sound s → levelOf (task s t) ≡ l → (a : Context × Call) → levelOf (task (next s a) t) ≡ l → NotTerminated t s a → SliceNotSet l s a
+      → 1 ≤ slice s l → 1 ≤ place (level s l) t → Nearer l t s (next s a) (one (isCharged s a l))
   unfolding step
-  per-call s k e a p some far = nearer s k l t h e (way s (a .0) (a .1))
-      (λ ok. record { alive = λ z. p .notTerminated (record { accepted = ok; is = z }); stays = λ z. p .notExited (record { accepted = ok; is = z }); unset = λ z. p .sliceKept (record { accepted = ok; is = z }) })
-      (p .stays) some far
+  per-call s k e a after alive unset some far = nearer s k l t h e (way s (a .0) (a .1))
+      (λ ok. record { alive = λ z. alive (record { accepted = ok; is = z }); unset = λ z. unset (record { accepted = ok; is = z }) }) after some far
 
   -- place * slice is at most the ticks left and the charge
-  first-by : (calls : List (Context × Call)) (s : State) (n : ℕ) → Sound s → RunnableAt s l t → 1 ≤ slice s l → AllProvided l t s calls
+  first-by : (calls : List (Context × Call)) (s : State) (n : ℕ) → Sound s → levelOf (task s t) ≡ l → 1 ≤ slice s l
+      → Each (StaysRunnable t) s calls → Each (NotTerminated t) s calls → Each (KeepsPriority t l) s calls → Each (SliceNotSet l) s calls
       → place (level s l) t * slice s l ≤ n + charge s l → n ≤ charges s calls l → FirstBy l t n s calls
   unfolding charges
-  first-by [] s n k e some all turn enough = ⊎-elim
+  first-by [] s n k e some none none none none turn enough = ⊎-elim
       (λ (z : place (level s l) t ≡ 0). Say.first (is-first s k e z))
       (λ (far : place (level s l) t ≡ 0 → ⊥). absurd (behind s k far some (omega arith)))
       (same? (place (level s l) t) 0)
-  first-by (a ∷ rest) s n k e some (each p all) turn enough = ⊎-elim
+  first-by (a ∷ rest) s n k e some (each runs allRun) (each alive allAlive) (each kept allKept) (each unset allUnset) turn enough = ⊎-elim
       (λ (z : place (level s l) t ≡ 0). Say.first (is-first s k e z))
-      (λ (far : place (level s l) t ≡ 0 → ⊥). goes (isCharged s a l) refl n (per-call s k e a p some (omega arith)) far turn enough
-      (λ j v. first-by rest (next s a) j (sound-stays-sound s (a .0) (a .1) k) (p .stays) v all))
+      (λ (far : place (level s l) t ≡ 0 → ⊥).
+      let after = level-runnable (task (next s a) t) l runs kept in
+      goes (isCharged s a l) refl n (per-call s k e a after alive unset some (omega arith)) far turn enough
+      (λ j v. first-by rest (next s a) j (sound-stays-sound s (a .0) (a .1) k) after v allRun allAlive allKept allUnset))
       (same? (place (level s l) t) 0)
     where
       goes : (b : Bool) → isCharged s a l ≡ b → (n : ℕ) → Nearer l t s (next s a) (one b) → (place (level s l) t ≡ 0 → ⊥)
           → place (level s l) t * slice s l ≤ n + charge s l → n ≤ one b + charges (next s a) rest l
           → ((j : ℕ) → 1 ≤ slice (next s a) l → place (level (next s a) l) t * slice (next s a) l ≤ j + charge (next s a) l → j ≤ charges (next s a) rest l → FirstBy l t j (next s a) rest)
           → FirstBy l t n s (a ∷ rest)
-      goes true y zero d far turn enough more = absurd (behind s k far some (omega arith))
+      goes b y zero d far turn enough more = absurd (behind s k far some (omega arith))
       goes true y (suc n) d far turn enough more =
           let r : T (isCharged s a l) = rw y tt in
           Say.charged r (more n (rw (d .steady) some) (rw (d .steady) (omega (arith, d .falls))) (omega arith))
-      goes false y n d far turn enough more =
+      goes false y (suc n) d far turn enough more =
           let r : T (not (isCharged s a l)) = rw y tt in
-          Say.later r (more n (rw (d .steady) some) (rw (d .steady) (omega (arith, d .falls))) (omega arith))
+          Say.later r (more (suc n) (rw (d .steady) some) (rw (d .steady) (omega (arith, d .falls))) (omega arith))
 
 pub turns-come-round : TurnsComeRound
-turns-come-round s calls l t q v k h e y z some all enough =
+turns-come-round s calls l t q v k runs e y z some stays alive keeps unset enough =
     let w : place (level s l) t ≡ q - 1 = omega arith in
-    first-by l t h calls s ((q - 1) * v) k e (rw z some) all (rw (z, w) (omega arith)) enough
+    let low : 1 ≤ l = omega (arith, level-some (task s t) (k .tasks t) runs) in
+    first-by l t low calls s ((q - 1) * v) k (level-runnable (task s t) l runs e) (rw z some) stays alive keeps unset (rw (z, w) (omega arith)) enough

@@ -9,13 +9,13 @@ use Rattle.model.specs.declared.State.{State}
 use Rattle.model.specs.declared.Context.{Context}
 use Rattle.model.specs.declared.Call.{Call}
 use Rattle.model.specs.Row.{place, firstOf}
-use Rattle.model.specs.Task.{nothing, served, timeout, dlt, released, levelOf, rowOf}
+use Rattle.model.specs.Task.{nothing, served, timeout, dlt, released, isRunnable, levelOf, rowOf}
 use Rattle.model.specs.State.{task, slice, level, waiters, running}
 use Rattle.model.specs.Code.{isRefusal}
 use Rattle.model.specs.Call.{step}
 use Rattle.model.specs.Test.{one}
 use Rattle.model.specs.Sound.{Sound}
-use Rattle.turns.specs.Kind.{Kind, tick, exit, terminate, forcedRelease, setSlice, deletion, kind, isTick, isReleaseOf}
+use Rattle.turns.specs.Kind.{Kind, tick, terminate, forcedRelease, setSlice, deletion, kind, isTick, isReleaseOf}
 
 -- ---- a call, with the context it comes from
 -- the state after it
@@ -53,27 +53,27 @@ pub record Ended (s : State) (t v : ℕ) : Type 0 where
   pub over : task s t .wait ≡ nothing
   pub code : task s t .code ≡ v
 
--- the call ends t's wait on m, and not by a release
+-- the call ends t's wait on m by timeout, forced release, termination or the semaphore's deletion
 pub data EndsSooner (s : State) (a : Context × Call) (m t : ℕ) : Type 0 where
   byTimeout : Does s a tick → Ended (next s a) t timeout → EndsSooner s a m t
   byForcedRelease : Does s a (forcedRelease t) → Ended (next s a) t released → EndsSooner s a m t
   byTermination : Does s a (terminate t) → task (next s a) t .wait ≡ nothing → EndsSooner s a m t
   byDeletion : Does s a (deletion m) → Ended (next s a) t dlt → EndsSooner s a m t
 
--- through these calls from s, t's wait on m ends by the n-th successful release of m, and until then t waits on m
+-- through these calls from s, t waits on m until its wait ends, no later than at the n-th successful release of m
 pub data HoldsBy (m t : ℕ) : ℕ → State → List (Context × Call) → Type 0 where
   -- a successful release ends it with 0: t holds its resource
   holds : {n : ℕ} {s : State} {a : Context × Call} {rest : List (Context × Call)}
       → T (isRelease s a m) → Ended (next s a) t served → HoldsBy m t (suc n) s (a ∷ rest)
-  -- it ends otherwise
+  -- it ends sooner
   sooner : {n : ℕ} {s : State} {a : Context × Call} {rest : List (Context × Call)}
-      → EndsSooner s a m t → HoldsBy m t n s (a ∷ rest)
-  -- a successful release that t waits through is one of the n
+      → EndsSooner s a m t → HoldsBy m t (suc n) s (a ∷ rest)
+  -- a successful release, after which t still waits, is one of the n
   passes : {n : ℕ} {s : State} {a : Context × Call} {rest : List (Context × Call)}
       → T (isRelease s a m) → WaitsOn (next s a) m t → HoldsBy m t n (next s a) rest → HoldsBy m t (suc n) s (a ∷ rest)
-  -- any other call is not
+  -- any other call, after which t still waits, is not
   waits : {n : ℕ} {s : State} {a : Context × Call} {rest : List (Context × Call)}
-      → T (not (isRelease s a m)) → WaitsOn (next s a) m t → HoldsBy m t n (next s a) rest → HoldsBy m t n s (a ∷ rest)
+      → T (not (isRelease s a m)) → WaitsOn (next s a) m t → HoldsBy m t (suc n) (next s a) rest → HoldsBy m t (suc n) s (a ∷ rest)
 
 abbrev pub WaitersAreServed : Type 0
 WaitersAreServed = (s : State) (calls : List (Context × Call)) (m t p : ℕ)
@@ -93,26 +93,28 @@ unfoldable pub charges : State → List (Context × Call) → ℕ → ℕ
 charges s [] l = 0
 charges s (a ∷ rest) l = one (isCharged s a l) + charges (next s a) rest l
 
--- t is runnable, and l is its priority
-abbrev pub RunnableAt : State → ℕ → ℕ → Type 0
-RunnableAt s l t = levelOf (task s t) ≡ l
-
 abbrev pub IsFirst : State → ℕ → ℕ → Type 0
 IsFirst s l t = firstOf (s .levels) l ≡ t
 
--- what is provided of a call; termination and exit may restart a task at once, by its activation count
-pub record Provided (s : State) (a : Context × Call) (l t : ℕ) : Type 0 where
-  pub stays : RunnableAt (next s a) l t
-  pub notTerminated : Does s a (terminate t) → ⊥
-  pub notExited : Does s a exit → running s ≡ t → ⊥
-  pub sliceKept : Does s a (setSlice l) → ⊥
+-- what is provided of a call that comes to s; a termination may restart the task at once, by its activation count
+abbrev pub StaysRunnable : ℕ → State → Context × Call → Type 0
+StaysRunnable t s a = T (isRunnable (task (next s a) t))
 
--- and of each of the calls
-pub data AllProvided (l t : ℕ) : State → List (Context × Call) → Type 0 where
-  none : {s : State} → AllProvided l t s []
-  each : {s : State} {a : Context × Call} {rest : List (Context × Call)} → Provided s a l t → AllProvided l t (next s a) rest → AllProvided l t s (a ∷ rest)
+abbrev pub NotTerminated : ℕ → State → Context × Call → Type 0
+NotTerminated t s a = Does s a (terminate t) → ⊥
 
--- through these calls from s, t is first of level l by the n-th tick charged to l
+abbrev pub KeepsPriority : ℕ → ℕ → State → Context × Call → Type 0
+KeepsPriority t l s a = task (next s a) t .priority ≡ l
+
+abbrev pub SliceNotSet : ℕ → State → Context × Call → Type 0
+SliceNotSet l s a = Does s a (setSlice l) → ⊥
+
+-- it holds of each call of a list, in the state that the call comes to
+pub data Each (P : State → Context × Call → Type 0) : State → List (Context × Call) → Type 0 where
+  none : {s : State} → Each P s []
+  each : {s : State} {a : Context × Call} {rest : List (Context × Call)} → P s a → Each P (next s a) rest → Each P s (a ∷ rest)
+
+-- through these calls from s, t is first of level l, now or after a call, no later than at the n-th tick charged to l
 pub data FirstBy (l t : ℕ) : ℕ → State → List (Context × Call) → Type 0 where
   first : {n : ℕ} {s : State} {calls : List (Context × Call)} → IsFirst s l t → FirstBy l t n s calls
   -- a tick charged to l is one of the n
@@ -120,13 +122,16 @@ pub data FirstBy (l t : ℕ) : ℕ → State → List (Context × Call) → Type
       → T (isCharged s a l) → FirstBy l t n (next s a) rest → FirstBy l t (suc n) s (a ∷ rest)
   -- any other call is not
   later : {n : ℕ} {s : State} {a : Context × Call} {rest : List (Context × Call)}
-      → T (not (isCharged s a l)) → FirstBy l t n (next s a) rest → FirstBy l t n s (a ∷ rest)
+      → T (not (isCharged s a l)) → FirstBy l t (suc n) (next s a) rest → FirstBy l t (suc n) s (a ∷ rest)
 
 abbrev pub TurnsComeRound : Type 0
 TurnsComeRound = (s : State) (calls : List (Context × Call)) (l t q v : ℕ)
     → Sound s
-    → 1 ≤ l → RunnableAt s l t → placeIn (level s l) t ≡ q
+    → T (isRunnable (task s t)) → task s t .priority ≡ l → placeIn (level s l) t ≡ q
     → slice s l ≡ v → 1 ≤ v
-    → AllProvided l t s calls
+    → Each (StaysRunnable t) s calls
+    → Each (NotTerminated t) s calls
+    → Each (KeepsPriority t l) s calls
+    → Each (SliceNotSet l) s calls
     → (q - 1) * v ≤ charges s calls l
     → FirstBy l t ((q - 1) * v) s calls
