@@ -8,3 +8,5 @@ pub mod Levels
 pub mod Charged
 pub mod Nearer
 pub mod Turns
+pub mod Seen
+pub mod Instances

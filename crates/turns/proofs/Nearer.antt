@@ -85,13 +85,13 @@ module _ (s : State) (k : Sound s) (l t : ℕ) (h : 1 ≤ l) (e : levelOf (task 
   unfolding carried counted
   nearer {j} (Ways.refuses c n) spared after some behind = rw (refused-none (isRefusal c) (isTick j && (eqb (levelOf (task s (running s))) l && not (eqb (slice s l) 0))) n) same
   nearer Ways.ticks spared after some behind = ticking some behind
-  nearer Ways.exits spared after some behind = stopping (running s) (runs-not s k l t h e behind)
+  nearer (Ways.exits runs) spared after some behind = stopping (running s) (runs-not s k l t h e behind)
   nearer (Ways.terminates u) spared after some behind = stopping u (λ z. spared tt .alive (ap Kinds.terminate z))
   nearer (Ways.forces u) spared after some behind = ending u released
   nearer (Ways.slices i v) spared after some behind = slicing i v (λ z. spared tt .unset (ap setSlice z))
   nearer (Ways.serves n top first) spared after some behind = ending (firstOf (s .waits) n) served
   nearer (Ways.raises n c v top free) spared after some behind = record { steady = refl; falls = omega arith }
-  nearer (Ways.deletes n) spared after some behind = deleting n
+  nearer (Ways.deletes n low top) spared after some behind = deleting n
   nearer Ways.keeps spared after some behind = same
   nearer (Ways.counts n c v) spared after some behind = record { steady = refl; falls = omega arith }
   nearer (Ways.moves c u x n keeps) spared after some behind =

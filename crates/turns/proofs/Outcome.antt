@@ -10,8 +10,7 @@ use lib.ListN.{length}
 use Rattle.model.specs.declared.Task.{Task}
 use Rattle.model.specs.declared.State.{State}
 use Rattle.model.specs.declared.Plan.{Plan}
-use Rattle.model.specs.declared.Effect.{Effect}
-use Rattle.model.specs.declared.Effect.the-variants.{Nothing, Moves, Stops, Counts, Deletes, Slices, Ticks}
+use Rattle.model.specs.declared.Effect.the-variants.{Moves, Deletes, Ticks}
 use Rattle.model.specs.Row.{place, first, left, row, firstOf, relisted}
 use Rattle.model.specs.Task.{nothing, served, timeout, dlt, released, rowOf, ended, aged}
 use Rattle.model.specs.State.{task, waiters, running, moved, counted, sliced, withTime}
@@ -26,10 +25,9 @@ use Rattle.laws.proofs.Relisted.{row-relisted-from}
 use Rattle.laws.proofs.Occ.{one-eq, one-ne}
 use Rattle.kept.proofs.Listed.{key-of, key-first, listed-in}
 use Rattle.kept.proofs.Records.{row-waits}
-use Rattle.kept.proofs.Effects.{Fit, waiter-in}
-use Rattle.kept.proofs.Effects as Effects
+use Rattle.kept.proofs.Effects.{waiter-in}
 use Rattle.kept.proofs.Running.{runner}
-use Rattle.kept.proofs.Shapes.{Shape, refuses, accepts, no-waiter}
+use Rattle.kept.proofs.Shapes.{refuses, no-waiter}
 use Rattle.turns.specs.Kind as Kinds
 use Rattle.turns.specs.Kind.{Kind, forcedRelease, release, deletion, isReleaseOf}
 use Rattle.turns.specs.Statements.{Ended}
@@ -52,30 +50,6 @@ pub data Outcome (s : State) (m t : ℕ) (k : Kind) (p : Plan) : Type 0 where
   forced : T (not (isRefusal (p .code))) → k ≡ forcedRelease t → Ended (carried s (p .effect)) t released → Outcome s m t k p
   stops : T (not (isRefusal (p .code))) → k ≡ Kinds.terminate t → task (carried s (p .effect)) t .wait ≡ nothing → Outcome s m t k p
   deletes : T (not (isRefusal (p .code))) → k ≡ deletion m → Ended (carried s (p .effect)) t dlt → Outcome s m t k p
-
--- what its tests have shown of the numbers in an effect
-unfoldable pub InRange : Effect → Type 0
-InRange Nothing = Unit {0}
-InRange (Moves u x) = (1 ≤ u) × (u ≤ 24)
-InRange (Stops u) = (1 ≤ u) × (u ≤ 24)
-InRange (Counts m n v) = Unit {0}
-InRange (Deletes m) = (1 ≤ m) × (m ≤ 12)
-InRange (Slices l v) = Unit {0}
-InRange Ticks = Unit {0}
-
-pub in-range : {s : State} {p : Plan} → Sound s → Shape s p → InRange (p .effect)
-unfolding InRange
-in-range k (refuses c n) = tt
-in-range k (accepts c e n fit) = go (fit k)
-  where
-    go : {s : State} {e : Effect} → Fit s e → InRange e
-    go Effects.none = tt
-    go (Effects.moves t x low top sound may) = (low, top)
-    go (Effects.stops t low top made) = (low, top)
-    go (Effects.counts m n v low most top free) = tt
-    go (Effects.deletes m low top) = (low, top)
-    go (Effects.slices l v low top) = tt
-    go Effects.ticks = tt
 
 module _ (s : State) (k : Sound s) (m t : ℕ) (h : 1 ≤ m) (e : rowOf (task s t) ≡ m) where
   low : 1 ≤ t
@@ -168,26 +142,26 @@ module _ (s : State) (k : Sound s) (m t : ℕ) (h : 1 ≤ m) (e : rowOf (task s 
           let y : task (lapsed 24 1 z) t ≡ aged (task s t) = lapsed-at 24 1 z t (rw (kept .0) long) low (omega (arith, waiter-in s k t (omega arith))) ∙ ap aged at in
           lapses tt refl (record { over = rw y (w .0); code = rw y (w .1) })
 
-  pub outcome : {j : Kind} {p : Plan} → Way s j p → InRange (p .effect) → Outcome s m t j p
-  unfolding carried InRange counted sliced
-  outcome {j} (Ways.refuses c n) r = on same (refused-none (isRefusal c) (isReleaseOf m j) n)
-  outcome Ways.ticks r = ticking
-  outcome Ways.exits r =
-      on (still-stopped on-waits m t low s (running s) (λ z. omega (arith, row-waits (task s t) (omega arith), rw z at (runner s k (r .0) .idle))) e) refl
-  outcome (Ways.terminates u) r = ⊎-elim
+  pub outcome : {j : Kind} {p : Plan} → Way s j p → Outcome s m t j p
+  unfolding carried counted sliced
+  outcome {j} (Ways.refuses c n) = on same (refused-none (isRefusal c) (isReleaseOf m j) n)
+  outcome Ways.ticks = ticking
+  outcome (Ways.exits some) =
+      on (still-stopped on-waits m t low s (running s) (λ z. omega (arith, row-waits (task s t) (omega arith), rw z at (runner s k some .idle))) e) refl
+  outcome (Ways.terminates u) = ⊎-elim
       (λ (z : u ≡ t). stops tt (ap Kinds.terminate z) (rw z (stopped-at s t long)))
       (λ (apart : u ≡ t → ⊥). on (still-stopped on-waits m t low s u apart e) refl)
       (same? u t)
-  outcome (Ways.forces u) r = ⊎-elim
+  outcome (Ways.forces u) = ⊎-elim
       (λ (z : u ≡ t). forced tt (ap forcedRelease z) (over u released z))
       (λ (apart : u ≡ t → ⊥). on (moving u (ended (task s u) released) (λ z. absurd (apart z))) refl)
       (same? u t)
-  outcome (Ways.slices l v) r = on (untouched (sliced l v s) refl refl) refl
-  outcome (Ways.serves n top some) r = serving n top some
-  outcome (Ways.raises n c v top free) r =
+  outcome (Ways.slices l v) = on (untouched (sliced l v s) refl refl) refl
+  outcome (Ways.serves n top some) = serving n top some
+  outcome (Ways.raises n c v top free) =
       on (untouched (counted n c v s) refl refl) (one-ne n m (λ y. no-waiter s k m h (omega arith) (rw y at free) t e))
-  outcome (Ways.deletes n) r = deleting n (r .0) (r .1)
-  outcome Ways.keeps r = on same refl
-  outcome (Ways.counts n c v) r = on (untouched (counted n c v s) refl refl) refl
-  outcome (Ways.moves c u x n keeps) r =
+  outcome (Ways.deletes n some top) = deleting n some top
+  outcome Ways.keeps = on same refl
+  outcome (Ways.counts n c v) = on (untouched (counted n c v s) refl refl) refl
+  outcome (Ways.moves c u x n keeps) =
       on (moving u x (λ z. let y = ap (λ i. rowOf (task s i)) z ∙ e in keeps k (omega arith) ∙ y)) (other-none (not (isRefusal c)))

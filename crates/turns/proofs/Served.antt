@@ -14,20 +14,19 @@ use Rattle.model.specs.State.{waiters}
 use Rattle.model.specs.Call.{planned, step}
 use Rattle.model.specs.Test.{one}
 use Rattle.model.specs.Sound.{Sound}
-use Rattle.kept.proofs.Shapes.{shape}
 use Rattle.kept.proofs.Kept.{sound-stays-sound}
 use Rattle.turns.specs.Kind.{kind}
 use Rattle.turns.specs.Statements as Say
 use Rattle.turns.specs.Statements.{next, isRelease, releases, WaitsOn, HoldsBy, WaitersAreServed}
 use Rattle.turns.proofs.Ways.{way}
-use Rattle.turns.proofs.Outcome.{Outcome, waits, holds, lapses, forced, stops, deletes, in-range, outcome}
+use Rattle.turns.proofs.Outcome.{Outcome, waits, holds, lapses, forced, stops, deletes, outcome}
 
 held : (m t : ℕ) → 1 ≤ m → (calls : List (Context × Call)) (s : State) (n : ℕ) → Sound s → WaitsOn s m t → place (waiters s m) t + 1 ≤ n → n ≤ releases s calls m
     → HoldsBy m t n s calls
 unfolding step releases
 held m t h [] s n k e turn enough = absurd (omega arith)
 held m t h (a ∷ rest) s n k e turn enough =
-    go (outcome s k m t h e (way s (a .0) (a .1)) (in-range k (shape s (a .0) (a .1)))) (λ j. held m t h rest (next s a) j (sound-stays-sound s (a .0) (a .1) k))
+    go (outcome s k m t h e (way s (a .0) (a .1))) (λ j. held m t h rest (next s a) j (sound-stays-sound s (a .0) (a .1) k))
   where
     goes : (b : Bool) (n : ℕ) → isRelease s a m ≡ b → WaitsOn (next s a) m t → place (waiters (next s a) m) t + one b + 1 ≤ n → n ≤ one b + releases (next s a) rest m
         → ((j : ℕ) → WaitsOn (next s a) m t → place (waiters (next s a) m) t + 1 ≤ j → j ≤ releases (next s a) rest m → HoldsBy m t j (next s a) rest)

@@ -34,13 +34,13 @@ use Rattle.turns.specs.Kind.{Kind, other, forcedRelease, setSlice, relea
 pub data Way (s : State) : Kind → Plan → Type 0 where
   refuses : {k : Kind} (c : Code) → T (isRefusal c) → Way s k (refused c)
   ticks : Way s Kinds.tick (does Ticks)
-  exits : Way s Kinds.exit (does (Stops (running s)))
+  exits : 1 ≤ running s → Way s Kinds.exit (does (Stops (running s)))
   terminates : (u : ℕ) → Way s (Kinds.terminate u) (does (Stops u))
   forces : (u : ℕ) → Way s (forcedRelease u) (does (Moves u (ended (task s u) released)))
   slices : (l v : ℕ) → Way s (setSlice l) (does (Slices l v))
   serves : (m : ℕ) → m ≤ 12 → 1 ≤ firstOf (s .waits) m → Way s (release m) (does (Moves (firstOf (s .waits) m) (ended (task s (firstOf (s .waits) m)) served)))
   raises : (m n v : ℕ) → m ≤ 12 → firstOf (s .waits) m ≡ 0 → Way s (release m) (does (Counts m n v))
-  deletes : (m : ℕ) → Way s (deletion m) (does (Deletes m))
+  deletes : (m : ℕ) → 1 ≤ m → m ≤ 12 → Way s (deletion m) (does (Deletes m))
   -- any other call lets a waiter wait as it did
   keeps : Way s other (does Nothing)
   counts : (m n v : ℕ) → Way s other (does (Counts m n v))
@@ -102,7 +102,7 @@ module _ (s : State) where
 
   way-exit : (mine : Bool) → Way s Kinds.exit (exit mine (running s))
   unfolding exit
-  way-exit mine = checks true true mine _ (λ _ _. needs (not (eqb (running s) 0)) _ _ tt (λ _. exits))
+  way-exit mine = checks true true mine _ (λ _ _. needs (not (eqb (running s) 0)) _ _ tt (λ some. exits (some-of (running s) some)))
 
   way-terminate : (mine : Bool) (t : ℕ) → Way s (Kinds.terminate t) (terminate mine t (running s) (task s t))
   unfolding terminate
@@ -154,7 +154,7 @@ module _ (s : State) where
 
   way-semDelete : (mine : Bool) (m : ℕ) → Way s (deletion m) (semDelete mine m (semaphore s m))
   unfolding semDelete
-  way-semDelete mine m = checks (isSemaphore m) (isMade (semaphore s m)) mine _ (λ _ _. deletes m)
+  way-semDelete mine m = checks (isSemaphore m) (isMade (semaphore s m)) mine _ (λ h _. let r = range 1 m 12 h in deletes m (r .0) (r .1))
 
   way-signal : (mine : Bool) (m : ℕ) → Way s (release m) (signal mine m (task s (firstOf (s .waits) m)) (semaphore s m))
   unfolding signal

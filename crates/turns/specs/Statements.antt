@@ -96,7 +96,8 @@ charges s (a ∷ rest) l = one (isCharged s a l) + charges (next s a) rest l
 abbrev pub IsFirst : State → ℕ → ℕ → Type 0
 IsFirst s l t = firstOf (s .levels) l ≡ t
 
--- what is provided of a call that comes to s; a termination may restart the task at once, by its activation count
+-- what is provided of a call that comes to s. A termination may restart the task at once, by its activation count;
+-- an exit needs no proviso, as only the running task exits, and that is first of its level
 abbrev pub StaysRunnable : ℕ → State → Context × Call → Type 0
 StaysRunnable t s a = T (isRunnable (task (next s a) t))
 
