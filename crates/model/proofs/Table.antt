@@ -114,6 +114,9 @@ table =
     -- a preempted task keeps its place
     ∷ from0
     (task (TaskCreate 1 6 1) ok 1 ∷ task (TaskCreate 2 6 1) ok 1 ∷ task (TaskCreate 3 2 1) ok 3 ∷ shows (order 6) (1 ∷ 2 ∷ []) ∷ task TaskExit ok 1 ∷ [])
+    -- a task with another priority goes last in its new level
+    ∷ from0
+    (task (TaskCreate 1 5 1) ok 1 ∷ task (TaskCreate 2 6 1) ok 1 ∷ task (TaskChangePriority 2 5) ok 1 ∷ shows (order 5) (1 ∷ 2 ∷ []) ∷ [])
     -- a release that wakes a waiter leaves the count
     ∷ from0
     (task (SemCreate 1 0 2) ok 0 ∷ task (TaskCreate 1 5 1) ok 1 ∷ task (SemAcquire 1 9) pending 0 ∷ task (SemSignal 1) ok 1 ∷ shows (counted 1) (0 ∷ []) ∷ [])
