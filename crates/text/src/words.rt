@@ -1,0 +1,50 @@
+// Fixed words: looked for at the start of a part of a file, and put into a buffer.
+// Each function is a definition of specs/Bytes, for every value.
+ghost use mathlib.Core.Path.{_≡_};
+ghost use Prim.Native.Nat.{_+_};
+ghost use lib.ListN.{length};
+ghost use lib.Dec.{leb};
+ghost use Rattle.text.specs.Bytes.{begins, put, after};
+
+// Whether s begins with t.
+pub fn begins(s: &[u8], t: &[u8]) -> bool
+    ensures { λ r. ⌜ r ≡ begins (now (s .entry)) (now (t .entry)) ⌝ }
+{
+    if s.len() < t.len() {
+        return false;
+    }
+    let mut i: usize = 0;
+    while i < t.len() {
+        if s[i] != t[i] {
+            return false;
+        }
+        i = i + 1;
+    }
+    true
+}
+
+// Whether n bytes have room from the place `at` on, where there are `places`.
+pub fn has_room(places: usize, at: usize, n: usize) -> bool
+    ensures { λ r. ⌜ r ≡ leb (at + n) places ⌝ }
+{
+    if places < n {
+        return false;
+    }
+    at <= places - n
+}
+
+// The bytes of t from the place `at` on, and the place after them; without room nothing is written and the place stays.
+pub fn put_text(buf: &mut [u8], at: usize, t: &[u8]) -> usize
+    ensures { λ r. ⌜ r ≡ after (now (buf .entry)) at (now (t .entry)) ⌝ }
+    ensures { λ r. ⌜ now (buf .exit) ≡ put (now (buf .entry)) at (now (t .entry)) ⌝ }
+{
+    if !has_room(buf.len(), at, t.len()) {
+        return at;
+    }
+    let mut i: usize = 0;
+    while i < t.len() {
+        buf[at + i] = t[i];
+        i = i + 1;
+    }
+    at + i
+}
