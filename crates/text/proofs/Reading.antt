@@ -79,14 +79,14 @@ NumberIn (Digits v n) l = n ≤ l
 NumberIn NoNumber l = Unit
 
 -- a fact of a choice, from the fact of each side
-pub cond-by : {A : Type 0} (P : A → Type 0) (b : Bool) (x y : A) → P x → P y → P (cond b x y)
-cond-by P true x y p q = p
+pub cond-by : {A : Type 0} (P : A → Type 0) (b : Bool) (x y : A) → (b ≡ true → P x) → P y → P (cond b x y)
+cond-by P true x y p q = p refl
 cond-by P false x y p q = q
 
 digits-in : (s : List ℕ) → length (digits s) ≤ length s
 unfolding digits
 digits-in [] = omega arith
-digits-in (b ∷ s) = cond-by (λ (ds : List ℕ). length ds ≤ suc (length s)) (isDigit b) (b ∷ digits s) [] (omega (arith, digits-in s)) (omega arith)
+digits-in (b ∷ s) = cond-by (λ (ds : List ℕ). length ds ≤ suc (length s)) (isDigit b) (b ∷ digits s) [] (λ e. omega (arith, digits-in s)) (omega arith)
 
 pub number-in : (s : List ℕ) → NumberIn (numberOf s) (length s)
 unfolding numberOf ended
@@ -95,7 +95,7 @@ number-in s =
     let v = valueAfter 0 (digits s) in
     let P : Number → Type 0 = λ (t : Number). NumberIn t (length s) in
     cond-by P (leb v 4294967295) (ended (getD s 0 0) v n) NoNumber
-    (cond-by P (eqb n 0) NoNumber _ tt
-    (cond-by P (eqb n 1) (Digits v n) _ (digits-in s)
-    (cond-by P (eqb (getD s 0 0) 48) NoNumber (Digits v n) tt (digits-in s))))
+    (λ _. cond-by P (eqb n 0) NoNumber _ (λ _. tt)
+    (cond-by P (eqb n 1) (Digits v n) _ (λ _. digits-in s)
+    (cond-by P (eqb (getD s 0 0) 48) NoNumber (Digits v n) (λ _. tt) (digits-in s))))
     tt

@@ -1,0 +1,170 @@
+-- What is read lies within the bytes, and a line that reads has at least one.
+-- It rests on the definitions of specs/, and on the same of numbers and words in text.
+use Prim.Native.Nat.{ℕ, _+_, _<_, _≤_}
+use mathlib.Core.Path.{_≡_, sym, _∙_}
+use mathlib.Core.Bool.{Bool, true, false, cond}
+use mathlib.Core.List.{List, [], _∷_}
+use native.Mathlib.Omega.{arith}
+use lib.Dec.{ltb, eqb}
+use lib.ListN.{length, getD, drop, length-drop}
+use borrow.Author.Tests.{eqb-true}
+use Rattle.text.specs.declared.number.Number.{Number}
+use Rattle.text.specs.declared.number.Number.the-variants.{Digits, NoNumber}
+use Rattle.text.specs.Bytes.{bytes, begins}
+use Rattle.text.proofs.Places.{is-within}
+use Rattle.text.proofs.Begins.{begins-in}
+use Rattle.text.proofs.Reading.{NumberIn, cond-by, number-in}
+use Rattle.model.specs.declared.Context.{Context}
+use Rattle.model.specs.declared.Context.the-variants.{T, I}
+use Rattle.lines.specs.declared.names.Name.{Name}
+use Rattle.lines.specs.declared.names.Name.the-variants.{Known, Unknown}
+use Rattle.lines.specs.declared.fields.End.{End}
+use Rattle.lines.specs.declared.fields.End.the-variants.{Closes, NoEnd}
+use Rattle.lines.specs.declared.fields.Fields.{Fields}
+use Rattle.lines.specs.declared.fields.Fields.the-variants.{Three, NoFields}
+use Rattle.lines.specs.declared.line.Letter.{Letter}
+use Rattle.lines.specs.declared.line.Letter.the-variants.{Is, NoLetter}
+use Rattle.lines.specs.declared.line.Line.{Line}
+use Rattle.lines.specs.declared.line.Line.the-variants.{Reads, Unreadable}
+use Rattle.lines.specs.declared.line.Header.{Header}
+use Rattle.lines.specs.declared.line.Header.the-variants.{Ends, NoHeader}
+use Rattle.lines.specs.Services.{Service, services, heading, callOf, nameIn, nameOf}
+use Rattle.lines.specs.Fields.{fieldOf, numberThen, commaField, endOf, endThen, lastField, fieldThen, fieldsOf}
+use Rattle.lines.specs.Lines.{letterOf, letterThen, nameThen, fieldsThen, lineOf, headerThen, headerOf}
+
+-- what a call's result was found to be, said of what the callee ensures of it
+pub got : {A : Type 0} {r x y : A} → r ≡ x → r ≡ y → x ≡ y
+got p q = sym p ∙ q
+
+-- each answer's length is at most that
+abbrev pub EndIn : End → ℕ → Type 0
+EndIn (Closes k) l = k ≤ l
+EndIn NoEnd l = Unit
+
+abbrev pub FieldsIn : Fields → ℕ → Type 0
+FieldsIn (Three a b c k) l = k ≤ l
+FieldsIn NoFields l = Unit
+
+abbrev pub LetterIn : Letter → ℕ → Type 0
+LetterIn (Is x) l = 2 ≤ l
+LetterIn NoLetter l = Unit
+
+abbrev pub NameIn : Name → ℕ → Type 0
+NameIn (Known k n i) l = i ≤ l
+NameIn Unknown l = Unit
+
+abbrev pub LineIn : Line → ℕ → Type 0
+LineIn (Reads x a n) l = (0 < n) × (n ≤ l)
+LineIn Unreadable l = Unit
+
+abbrev pub HeaderIn : Header → ℕ → Type 0
+HeaderIn (Ends n) l = n ≤ l
+HeaderIn NoHeader l = Unit
+
+-- a length within what is left after n bytes, added to n
+pub after : (s : List ℕ) (n k : ℕ) → n ≤ length s → k ≤ length (drop n s) → n + k ≤ length s
+after s n k h g = omega (arith, simp length-drop at g)
+
+-- ---- the fields
+
+pub field-in : (used : Bool) (s : List ℕ) → NumberIn (fieldOf used s) (length s)
+unfolding fieldOf
+field-in true s = number-in s
+field-in false s = omega arith
+
+pub comma-in : (used : Bool) (s : List ℕ) → NumberIn (commaField used s) (length s)
+unfolding commaField
+comma-in used s = go (fieldOf used s)
+  where
+    go : (t : Number) → NumberIn (numberThen t (λ v n. cond (eqb (getD s n 0) 44) (Digits v (n + 1)) NoNumber)) (length s)
+    go (Digits v n) =
+        cond-by (λ (t : Number). NumberIn t (length s)) (eqb (getD s n 0) 44) (Digits v (n + 1)) NoNumber
+        (λ e. omega (arith, is-within s n 44 (omega arith) (eqb-true (getD s n 0) 44 e))) tt
+    go NoNumber = tt
+
+pub end-in : (s : List ℕ) → EndIn (endOf s) (length s)
+unfolding endOf
+end-in s =
+    let P : End → Type 0 = λ (t : End). EndIn t (length s) in
+    cond-by P (eqb (length s) 0) (Closes 0) _ (λ _. omega arith)
+    (cond-by P (begins s (bytes "\n")) (Closes 1) _ (λ e. begins-in s (bytes "\n") e)
+    (cond-by P (begins s (bytes "\r\n")) (Closes 2) NoEnd (λ e. begins-in s (bytes "\r\n") e) tt))
+
+pub last-in : (used : Bool) (s : List ℕ) → NumberIn (lastField used s) (length s)
+unfolding lastField
+last-in used s = first (fieldOf used s) (field-in used s)
+  where
+    second : (v n : ℕ) → n ≤ length s → (t : End) → EndIn t (length (drop n s)) → NumberIn (endThen t (λ k. Digits v (n + k))) (length s)
+    second v n h (Closes k) g = after s n k h g
+    second v n h NoEnd g = tt
+
+    first : (t : Number) → NumberIn t (length s) → NumberIn (numberThen t (λ v n. endThen (endOf (drop n s)) (λ k. Digits v (n + k)))) (length s)
+    first (Digits v n) h = second v n h (endOf (drop n s)) (end-in (drop n s))
+    first NoNumber h = tt
+
+pub fields-in : (takes : ℕ) (s : List ℕ) → FieldsIn (fieldsOf takes s) (length s)
+unfolding fieldsOf
+fields-in takes s = first (commaField (ltb 0 takes) s) (comma-in (ltb 0 takes) s)
+  where
+    third : (a b i : ℕ) → i ≤ length s → (t : Number) → NumberIn t (length (drop i s)) → FieldsIn (fieldThen t (λ c k. Three a b c (i + k))) (length s)
+    third a b i h (Digits c k) g = after s i k h g
+    third a b i h NoNumber g = tt
+
+    second : (a i : ℕ) → i ≤ length s → (t : Number) → NumberIn t (length (drop i s))
+        → FieldsIn (fieldThen t (λ b j. fieldThen (lastField (ltb 2 takes) (drop (i + j) s)) (λ c k. Three a b c (i + j + k)))) (length s)
+    second a i h (Digits b j) g = third a b (i + j) (after s i j h g) (lastField (ltb 2 takes) (drop (i + j) s)) (last-in (ltb 2 takes) (drop (i + j) s))
+    second a i h NoNumber g = tt
+
+    first : (t : Number) → NumberIn t (length s)
+        → FieldsIn (fieldThen t (λ a i. fieldThen (commaField (ltb 1 takes) (drop i s)) (λ b j. fieldThen (lastField (ltb 2 takes) (drop (i + j) s)) (λ c k. Three a b c (i + j + k))))) (length s)
+    first (Digits a i) g = second a i g (commaField (ltb 1 takes) (drop i s)) (comma-in (ltb 1 takes) (drop i s))
+    first NoNumber g = tt
+
+-- ---- the line and the header
+
+pub letter-in : (s : List ℕ) → LetterIn (letterOf s) (length s)
+unfolding letterOf
+letter-in s =
+    let P : Letter → Type 0 = λ (t : Letter). LetterIn t (length s) in
+    cond-by P (begins s (bytes "T,")) (Is T) _ (λ e. begins-in s (bytes "T,") e)
+    (cond-by P (begins s (bytes "I,")) (Is I) NoLetter (λ e. begins-in s (bytes "I,") e) tt)
+
+name-among : (xs : List Service) (k : ℕ) (s : List ℕ) → NameIn (nameIn xs k s) (length s)
+unfolding nameIn
+name-among [] k s = tt
+name-among (x ∷ xs) k s =
+    cond-by (λ (t : Name). NameIn t (length s)) (begins s (heading x)) (Known k (x .takes) (length (heading x))) (nameIn xs (k + 1) s)
+    (λ e. begins-in s (heading x) e) (name-among xs (k + 1) s)
+
+pub name-in : (s : List ℕ) → NameIn (nameOf s) (length s)
+unfolding nameOf
+name-in s = name-among services 0 s
+
+pub line-in : (s : List ℕ) → LineIn (lineOf s) (length s)
+unfolding lineOf
+line-in s = first (letterOf s) (letter-in s)
+  where
+    third : (x : Context) (k i : ℕ) → 0 < i → i ≤ length s → (t : Fields) → FieldsIn t (length (drop i s))
+        → LineIn (fieldsThen t (λ a b c m. Reads x (callOf k a b c) (i + m))) (length s)
+    third x k i p h (Three a b c m) g = (omega arith, after s i m h g)
+    third x k i p h NoFields g = tt
+
+    second : (x : Context) → 2 ≤ length s → (t : Name) → NameIn t (length (drop 2 s))
+        → LineIn (nameThen t (λ k takes n. fieldsThen (fieldsOf takes (drop (2 + n) s)) (λ a b c m. Reads x (callOf k a b c) (2 + n + m)))) (length s)
+    second x h (Known k takes n) g = third x k (2 + n) (omega arith) (after s 2 n h g) (fieldsOf takes (drop (2 + n) s)) (fields-in takes (drop (2 + n) s))
+    second x h Unknown g = tt
+
+    first : (t : Letter) → LetterIn t (length s)
+        → LineIn (letterThen t (λ x. nameThen (nameOf (drop 2 s)) (λ k takes n. fieldsThen (fieldsOf takes (drop (2 + n) s)) (λ a b c m. Reads x (callOf k a b c) (2 + n + m))))) (length s)
+    first (Is x) h = second x h (nameOf (drop 2 s)) (name-in (drop 2 s))
+    first NoLetter h = tt
+
+pub header-in : (s : List ℕ) → HeaderIn (headerOf s) (length s)
+unfolding headerOf
+header-in s =
+    cond-by (λ (t : Header). HeaderIn t (length s)) (begins s (bytes "ctx,service,a,b,c")) (headerThen (endOf (drop 17 s)) (λ k. Ends (17 + k))) NoHeader
+    (λ e. go (begins-in s (bytes "ctx,service,a,b,c") e) (endOf (drop 17 s)) (end-in (drop 17 s))) tt
+  where
+    go : 17 ≤ length s → (t : End) → EndIn t (length (drop 17 s)) → HeaderIn (headerThen t (λ k. Ends (17 + k))) (length s)
+    go h (Closes k) g = after s 17 k h g
+    go h NoEnd g = tt

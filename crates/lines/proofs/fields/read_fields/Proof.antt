@@ -1,0 +1,148 @@
+-- `lines::fields::read_fields` meets its contract: field by field, each in the part that begins with it.
+-- It rests on the definition, and on what is read being within the bytes.
+use Prim.Native.Nat.{_+_, _≤_}
+use mathlib.Core.Path.{_≡_}
+use native.Mathlib.Omega.{arith}
+use lib.Dec.{ltb}
+use lib.ListN.{length, drop}
+use Rattle.text.specs.declared.number.Number.the-variants.{Digits}
+use Rattle.text.proofs.Places.{part-of}
+use Rattle.lines.specs.Fields.{commaField, lastField, fieldsOf}
+use Rattle.lines.proofs.Within.{got, after, comma-in, last-in}
+use borrow.Author.Needs.{needs}
+use Rattle.lines.proofs.fields.read_fields.Statement.{statement}
+use Rattle.lines.proofs.fields.read_fields.Tie as tie
+
+-- what is known after each field was read, and that it lies within the bytes
+e1 : (c : tie.After-a) → let a = c .before .before .before .before .args in
+    commaField (ltb 0 (a .takes)) (a .s .now) ≡ Digits (c .a .given .0 .0) (c .a .given .0 .1 .0)
+e1 c = got (c .before .before .comma-field .ensures) (c .a .given .1)
+
+in1 : (c : tie.After-a) → c .a .given .0 .1 .0 ≤ length (c .before .before .before .before .args .s .now)
+in1 c = let a = c .before .before .before .before .args in rw (e1 c) at (comma-in (ltb 0 (a .takes)) (a .s .now))
+
+e2 : (c : tie.After-b) → let d = c .before .before .before .before .before in let a = d .before .before .before .before .args in
+    commaField (ltb 1 (a .takes)) (drop (d .a .given .0 .1 .0) (a .s .now)) ≡ Digits (c .b .given .0 .0) (c .b .given .0 .1 .0)
+e2 c =
+    let d = c .before .before .before .before .before in
+    let a = d .before .before .before .before .args in
+    got (part-of (commaField (ltb 1 (a .takes))) (a .s .now) (d .a .given .0 .1 .0) (c .before .before .comma-field2 .ensures)) (c .b .given .1)
+
+in2 : (c : tie.After-b) → let d = c .before .before .before .before .before in d .a .given .0 .1 .0 + c .b .given .0 .1 .0 ≤ length (d .before .before .before .before .args .s .now)
+in2 c =
+    let d = c .before .before .before .before .before in
+    let a = d .before .before .before .before .args in
+    after (a .s .now) (d .a .given .0 .1 .0) (c .b .given .0 .1 .0) (in1 d) (rw (e2 c) at (comma-in (ltb 1 (a .takes)) (drop (d .a .given .0 .1 .0) (a .s .now))))
+
+e3 : (c : tie.After-c) → let e = c .before .before .before .before .before in let d = e .before .before .before .before .before in let a = d .before .before .before .before .args in
+    lastField (ltb 2 (a .takes)) (drop (d .a .given .0 .1 .0 + e .b .given .0 .1 .0) (a .s .now)) ≡ Digits (c .c .given .0 .0) (c .c .given .0 .1 .0)
+e3 c =
+    let e = c .before .before .before .before .before in
+    let d = e .before .before .before .before .before in
+    let a = d .before .before .before .before .args in
+    got (part-of (lastField (ltb 2 (a .takes))) (a .s .now) (d .a .given .0 .1 .0 + e .b .given .0 .1 .0) (c .before .before .last-field .ensures)) (c .c .given .1)
+
+comma-field-requires : tie.Need-comma-field-requires
+comma-field-requires c κs = search needs
+
+enum-known-a : tie.Need-enum-known-a
+enum-known-a c = search needs
+
+enum-told : tie.Need-enum-told
+enum-told c = search needs
+
+returns : tie.Need-returns
+unfolding fieldsOf
+returns c = simp (got (c .before .before .comma-field .ensures) (c .enum-told .given .1))
+
+sub-comma-field : tie.Need-sub-comma-field
+sub-comma-field c = in1 (c .before)
+
+part-comma-field-start : tie.Need-part-comma-field-start
+part-comma-field-start c = in1 (c .before)
+
+part-comma-field-end : tie.Need-part-comma-field-end
+part-comma-field-end c = search needs
+
+comma-field-requires-2 : tie.Need-comma-field-requires-2
+comma-field-requires-2 c κs = search needs
+
+enum-known-b : tie.Need-enum-known-b
+enum-known-b c = search needs
+
+enum-told-2 : tie.Need-enum-told-2
+enum-told-2 c = search needs
+
+returns-2 : tie.Need-returns-2
+unfolding fieldsOf
+returns-2 c =
+    let d = c .before .before .before .before .before in
+    let a = d .before .before .before .before .args in
+    simp (e1 d) (simp (got (part-of (commaField (ltb 1 (a .takes))) (a .s .now) (d .a .given .0 .1 .0) (c .before .before .comma-field2 .ensures)) (c .enum-told2 .given .1)))
+
+add-at : tie.Need-add-at
+add-at c = omega (arith, in2 (c .before), c .before .before .before .before .before .before .before .before .before .before .good)
+
+sub-last-field : tie.Need-sub-last-field
+sub-last-field c = in2 (c .before)
+
+part-last-field-start : tie.Need-part-last-field-start
+part-last-field-start c = in2 (c .before)
+
+part-last-field-end : tie.Need-part-last-field-end
+part-last-field-end c = search needs
+
+last-field-requires : tie.Need-last-field-requires
+last-field-requires c κs = search needs
+
+enum-known-c : tie.Need-enum-known-c
+enum-known-c c = search needs
+
+enum-told-3 : tie.Need-enum-told-3
+enum-told-3 c = search needs
+
+returns-3 : tie.Need-returns-3
+unfolding fieldsOf
+returns-3 c =
+    let e = c .before .before .before .before .before in
+    let d = e .before .before .before .before .before in
+    let a = d .before .before .before .before .args in
+    simp (e1 d) (simp (e2 e) (simp (got (part-of (lastField (ltb 2 (a .takes))) (a .s .now) (d .a .given .0 .1 .0 + e .b .given .0 .1 .0) (c .before .before .last-field .ensures)) (c .enum-told3 .given .1))))
+
+add-t14 : tie.Need-add-t14
+add-t14 c =
+    let e = c .before .before .before .before .before .before in
+    let d = e .before .before .before .before .before in
+    let a = d .before .before .before .before .args in
+    let n = d .a .given .0 .1 .0 + e .b .given .0 .1 .0 in
+    omega (arith, after (a .s .now) n (c .before .c .given .0 .1 .0) (in2 e) (rw (e3 (c .before)) at (last-in (ltb 2 (a .takes)) (drop n (a .s .now)))), d .before .before .before .before .good)
+
+returns-4 : tie.Need-returns-4
+unfolding fieldsOf
+returns-4 c = simp (e1 (c .before .before .before .before .before .before .before .before .before .before .before)) (simp (e2 (c .before .before .before .before .before .before)) (simp (e3 (c .before))))
+
+pub read-fields-spec : {M : Type 1} → statement M
+read-fields-spec =
+    tie.close
+    (tie.spec
+    comma-field-requires
+    enum-known-a
+    enum-told
+    returns
+    sub-comma-field
+    part-comma-field-start
+    part-comma-field-end
+    comma-field-requires-2
+    enum-known-b
+    enum-told-2
+    returns-2
+    add-at
+    sub-last-field
+    part-last-field-start
+    part-last-field-end
+    last-field-requires
+    enum-known-c
+    enum-told-3
+    returns-3
+    add-t14
+    returns-4)

@@ -1,0 +1,143 @@
+-- `lines::line::read_line` meets its contract: context, service and fields, each in the part that begins with it.
+-- It rests on the definition, and on what is read being within the bytes.
+use Prim.Native.Nat.{_+_, _≤_}
+use mathlib.Core.Path.{_≡_}
+use native.Mathlib.Omega.{arith}
+use lib.ListN.{length, drop}
+use Rattle.text.proofs.Places.{part-of}
+use Rattle.lines.specs.declared.names.Name.the-variants.{Known}
+use Rattle.lines.specs.declared.fields.Fields.the-variants.{Three}
+use Rattle.lines.specs.declared.line.Letter.the-variants.{Is}
+use Rattle.lines.specs.Services.{nameOf}
+use Rattle.lines.specs.Fields.{fieldsOf}
+use Rattle.lines.specs.Lines.{letterOf, lineOf}
+use Rattle.lines.proofs.Within.{got, after, letter-in, name-in, fields-in}
+use borrow.Author.Needs.{needs}
+use Rattle.lines.proofs.line.read_line.Statement.{statement}
+use Rattle.lines.proofs.line.read_line.Tie as tie
+
+-- what is known after each part was read, and that it lies within the bytes
+e1 : (c : tie.After-context) → letterOf (c .before .before .before .before .args .s .now) ≡ Is (c .context .given .0 .0)
+e1 c = got (c .before .before .read-letter .ensures) (c .context .given .1)
+
+in1 : (c : tie.After-context) → 2 ≤ length (c .before .before .before .before .args .s .now)
+in1 c = rw (e1 c) at (letter-in (c .before .before .before .before .args .s .now))
+
+e2 : (c : tie.After-number) → nameOf (drop 2 (c .before .before .before .before .before .before .before .before .before .args .s .now)) ≡ Known (c .number .given .0 .0) (c .number .given .0 .1 .0) (c .number .given .0 .1 .1 .0)
+e2 c = got (part-of nameOf (c .before .before .before .before .before .before .before .before .before .args .s .now) 2 (c .before .before .read-name .ensures)) (c .number .given .1)
+
+in2 : (c : tie.After-number) → 2 + c .number .given .0 .1 .1 .0 ≤ length (c .before .before .before .before .before .before .before .before .before .args .s .now)
+in2 c =
+    let s = c .before .before .before .before .before .before .before .before .before .args .s .now in
+    after s 2 (c .number .given .0 .1 .1 .0) (in1 (c .before .before .before .before .before)) (rw (e2 c) at (name-in (drop 2 s)))
+
+e3 : (c : tie.After-a) → let e = c .before .before .before .before .before in
+    fieldsOf (e .number .given .0 .1 .0) (drop (2 + e .number .given .0 .1 .1 .0) (c .before .before .before .before .before .before .before .before .before .before .before .before .before .before .args .s .now))
+    ≡ Three (c .a .given .0 .0) (c .a .given .0 .1 .0) (c .a .given .0 .1 .1 .0) (c .a .given .0 .1 .1 .1 .0)
+e3 c =
+    let e = c .before .before .before .before .before in
+    got (part-of (fieldsOf (e .number .given .0 .1 .0)) (c .before .before .before .before .before .before .before .before .before .before .before .before .before .before .args .s .now) (2 + e .number .given .0 .1 .1 .0) (c .before .before .read-fields .ensures)) (c .a .given .1)
+
+read-letter-requires : tie.Need-read-letter-requires
+read-letter-requires c κs = search needs
+
+enum-known-context : tie.Need-enum-known-context
+enum-known-context c = search needs
+
+enum-told : tie.Need-enum-told
+enum-told c = search needs
+
+returns : tie.Need-returns
+unfolding lineOf
+returns c = simp (got (c .before .before .read-letter .ensures) (c .enum-told .given .1))
+
+sub-read-name : tie.Need-sub-read-name
+sub-read-name c = in1 (c .before)
+
+part-read-name-start : tie.Need-part-read-name-start
+part-read-name-start c = in1 (c .before)
+
+part-read-name-end : tie.Need-part-read-name-end
+part-read-name-end c = search needs
+
+read-name-requires : tie.Need-read-name-requires
+read-name-requires c κs = search needs
+
+enum-known-number : tie.Need-enum-known-number
+enum-known-number c = search needs
+
+enum-told-2 : tie.Need-enum-told-2
+enum-told-2 c = search needs
+
+returns-2 : tie.Need-returns-2
+unfolding lineOf
+returns-2 c = simp (e1 (c .before .before .before .before .before)) (simp (got (part-of nameOf (c .before .before .before .before .before .before .before .before .before .args .s .now) 2 (c .before .before .read-name .ensures)) (c .enum-told2 .given .1)))
+
+add-at : tie.Need-add-at
+add-at c = omega (arith, in2 (c .before), c .before .before .before .before .before .before .before .before .before .before .good)
+
+sub-read-fields : tie.Need-sub-read-fields
+sub-read-fields c = in2 (c .before)
+
+part-read-fields-start : tie.Need-part-read-fields-start
+part-read-fields-start c = in2 (c .before)
+
+part-read-fields-end : tie.Need-part-read-fields-end
+part-read-fields-end c = search needs
+
+read-fields-requires : tie.Need-read-fields-requires
+read-fields-requires c κs = search needs
+
+enum-known-a : tie.Need-enum-known-a
+enum-known-a c = search needs
+
+enum-told-3 : tie.Need-enum-told-3
+enum-told-3 c = search needs
+
+returns-3 : tie.Need-returns-3
+unfolding lineOf
+returns-3 c =
+    let e = c .before .before .before .before .before in
+    let s = c .before .before .before .before .before .before .before .before .before .before .before .before .before .before .args .s .now in
+    simp (e1 (c .before .before .before .before .before .before .before .before .before .before)) (simp (e2 e) (simp (got (part-of (fieldsOf (e .number .given .0 .1 .0)) s (2 + e .number .given .0 .1 .1 .0) (c .before .before .read-fields .ensures)) (c .enum-told3 .given .1))))
+
+call-of-requires : tie.Need-call-of-requires
+call-of-requires c κs = search needs
+
+add-t15 : tie.Need-add-t15
+add-t15 c =
+    let e = c .before .before .before .before .before .before .before in
+    let s = c .before .before .before .before .before .before .before .before .before .before .before .before .before .before .before .before .args .s .now in
+    let n = 2 + e .number .given .0 .1 .1 .0 in
+    omega (arith, after s n (c .before .before .a .given .0 .1 .1 .1 .0) (in2 e) (rw (e3 (c .before .before)) at (fields-in (e .number .given .0 .1 .0) (drop n s))), c .before .before .before .before .before .before .before .before .before .before .before .before .before .before .before .before .good)
+
+returns-4 : tie.Need-returns-4
+unfolding lineOf
+returns-4 c = rw (c .call-of .ensures) (simp (e1 (c .before .before .before .before .before .before .before .before .before .before .before .before)) (simp (e2 (c .before .before .before .before .before .before .before)) (simp (e3 (c .before .before)))))
+
+pub read-line-spec : {M : Type 1} → statement M
+read-line-spec =
+    tie.close
+    (tie.spec
+    read-letter-requires
+    enum-known-context
+    enum-told
+    returns
+    sub-read-name
+    part-read-name-start
+    part-read-name-end
+    read-name-requires
+    enum-known-number
+    enum-told-2
+    returns-2
+    add-at
+    sub-read-fields
+    part-read-fields-start
+    part-read-fields-end
+    read-fields-requires
+    enum-known-a
+    enum-told-3
+    returns-3
+    call-of-requires
+    add-t15
+    returns-4)

@@ -1,0 +1,55 @@
+-- One line of a list of calls, from its first byte on, and the header.
+-- It rests on the table of services and on the fields.
+use Prim.Native.Nat.{ℕ, _+_}
+use mathlib.Core.Bool.{cond}
+use mathlib.Core.List.{List}
+use lib.ListN.{drop}
+use Rattle.text.specs.Bytes.{bytes, begins}
+use Rattle.model.specs.declared.Context.{Context}
+use Rattle.model.specs.declared.Context.the-variants.{T, I}
+use Rattle.lines.specs.declared.names.Name.{Name}
+use Rattle.lines.specs.declared.names.Name.the-variants.{Known, Unknown}
+use Rattle.lines.specs.declared.fields.End.{End}
+use Rattle.lines.specs.declared.fields.End.the-variants.{Closes, NoEnd}
+use Rattle.lines.specs.declared.fields.Fields.{Fields}
+use Rattle.lines.specs.declared.fields.Fields.the-variants.{Three, NoFields}
+use Rattle.lines.specs.declared.line.Letter.{Letter}
+use Rattle.lines.specs.declared.line.Letter.the-variants.{Is, NoLetter}
+use Rattle.lines.specs.declared.line.Line.{Line}
+use Rattle.lines.specs.declared.line.Line.the-variants.{Reads, Unreadable}
+use Rattle.lines.specs.declared.line.Header.{Header}
+use Rattle.lines.specs.declared.line.Header.the-variants.{Ends, NoHeader}
+use Rattle.lines.specs.Services.{nameOf, callOf}
+use Rattle.lines.specs.Fields.{endOf, fieldsOf}
+
+-- the context, T or I, and the comma after it
+unfoldable pub letterOf : List ℕ → Letter
+letterOf s = cond (begins s (bytes "T,")) (Is T) (cond (begins s (bytes "I,")) (Is I) NoLetter)
+
+abbrev pub letterThen : Letter → (Context → Line) → Line
+letterThen (Is x) f = f x
+letterThen NoLetter f = Unreadable
+
+abbrev pub nameThen : Name → (ℕ → ℕ → ℕ → Line) → Line
+nameThen (Known k takes n) f = f k takes n
+nameThen Unknown f = Unreadable
+
+abbrev pub fieldsThen : Fields → (ℕ → ℕ → ℕ → ℕ → Line) → Line
+fieldsThen (Three a b c n) f = f a b c n
+fieldsThen NoFields f = Unreadable
+
+-- context, service, three numbers and the line end: each is read in the part that begins at its first byte
+unfoldable pub lineOf : List ℕ → Line
+lineOf s =
+    letterThen (letterOf s) (λ x.
+    nameThen (nameOf (drop 2 s)) (λ k takes n.
+    fieldsThen (fieldsOf takes (drop (2 + n) s)) (λ a b c m.
+    Reads x (callOf k a b c) (2 + n + m))))
+
+abbrev pub headerThen : End → (ℕ → Header) → Header
+headerThen (Closes k) f = f k
+headerThen NoEnd f = NoHeader
+
+-- the header and its line end
+unfoldable pub headerOf : List ℕ → Header
+headerOf s = cond (begins s (bytes "ctx,service,a,b,c")) (headerThen (endOf (drop 17 s)) (λ k. Ends (17 + k))) NoHeader

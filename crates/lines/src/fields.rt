@@ -1,0 +1,101 @@
+// The fields of numbers after a service's name, and the line end.
+// Each function is a definition of specs/Fields, for every value; it rests on text.
+ghost use mathlib.Core.Path.{_≡_};
+ghost use Rattle.lines.specs.Fields.{fieldOf, commaField, endOf, lastField, fieldsOf};
+use crate::names::byte_at;
+use text::number::Number;
+use text::number::read_number;
+use text::words::begins;
+
+// The length of a line end, or no line end.
+pub enum End {
+    Closes { next: usize },
+    NoEnd,
+}
+
+// The three numbers with their length, line end included.
+pub enum Fields {
+    Three { a: u32, b: u32, c: u32, next: usize },
+    NoFields,
+}
+
+// A used field is a number; an unused one is blank.
+fn field(s: &[u8], used: bool) -> Number
+    ensures { λ r. ⌜ r ≡ fieldOf used (now (s .entry)) ⌝ }
+{
+    if used {
+        return read_number(s);
+    }
+    Number::Digits { value: 0, next: 0 }
+}
+
+// A field and the comma after it.
+fn comma_field(s: &[u8], used: bool) -> Number
+    ensures { λ r. ⌜ r ≡ commaField used (now (s .entry)) ⌝ }
+{
+    let Number::Digits { value, next } = field(s, used) else {
+        return Number::NoNumber;
+    };
+    let b = byte_at(s, next);
+    if b == b',' {
+        return Number::Digits {
+            value,
+            next: next + 1,
+        };
+    }
+    Number::NoNumber
+}
+
+// LF, CR LF or the end of the file.
+pub fn line_end(s: &[u8]) -> End
+    ensures { λ r. ⌜ r ≡ endOf (now (s .entry)) ⌝ }
+{
+    if s.len() == 0 {
+        return End::Closes { next: 0 };
+    }
+    if begins(s, b"\n") {
+        return End::Closes { next: 1 };
+    }
+    if begins(s, b"\r\n") {
+        return End::Closes { next: 2 };
+    }
+    End::NoEnd
+}
+
+// The last field and the line end.
+fn last_field(s: &[u8], used: bool) -> Number
+    ensures { λ r. ⌜ r ≡ lastField used (now (s .entry)) ⌝ }
+{
+    let Number::Digits { value, next } = field(s, used) else {
+        return Number::NoNumber;
+    };
+    let End::Closes { next: end } = line_end(&s[next..]) else {
+        return Number::NoNumber;
+    };
+    Number::Digits {
+        value,
+        next: next + end,
+    }
+}
+
+// The fields a, b and c, of which the first `takes` are used.
+pub fn read_fields(s: &[u8], takes: u8) -> Fields
+    ensures { λ r. ⌜ r ≡ fieldsOf takes (now (s .entry)) ⌝ }
+{
+    let Number::Digits { value: a, next: i } = comma_field(s, 0 < takes) else {
+        return Fields::NoFields;
+    };
+    let Number::Digits { value: b, next: j } = comma_field(&s[i..], 1 < takes) else {
+        return Fields::NoFields;
+    };
+    let at = i + j;
+    let Number::Digits { value: c, next: k } = last_field(&s[at..], 2 < takes) else {
+        return Fields::NoFields;
+    };
+    Fields::Three {
+        a,
+        b,
+        c,
+        next: at + k,
+    }
+}
