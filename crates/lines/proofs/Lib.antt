@@ -1,2 +1,4 @@
 pub mod Within
 pub mod Table
+pub mod Right
+pub mod Vectors

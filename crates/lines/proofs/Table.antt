@@ -1,39 +1,30 @@
--- The table of services: tests that antt computes over all its rows, and that two bytes of a name tell which row it can be.
+-- The table of services: tests that antt computes over all its rows, and that a few bytes of a name tell which row it can be.
 -- It rests on the table and on the laws of `begins`.
-use Prim.Native.Nat.{ℕ, zero, suc, _+_, _*_, _≤_}
+use Prim.Native.Nat.{ℕ, zero, suc, _+_, _<_, _≤_}
 use mathlib.Core.Path.{_≡_, refl, sym, ap, _∙_}
 use mathlib.Core.Bool.{Bool, true, false, cond, _&&_, false≢true}
 use mathlib.Core.List.{List, [], _∷_}
 use native.Mathlib.Omega.{arith}
 use lib.Dec.{T, leb, eqb, leb→le}
 use lib.ListN.{length, getD}
-use borrow.Author.Tests.{eq-eqb, ne-eqb}
+use borrow.Author.Tests.{eq-eqb, ne-eqb, eqb-true}
 use Rattle.text.specs.Bytes.{begins}
 use Rattle.text.proofs.Begins.{begins-at}
 use Rattle.lines.specs.declared.names.Name.{Name}
 use Rattle.lines.specs.declared.names.Name.the-variants.{Known, Unknown}
-use Rattle.lines.specs.Services.{Service, services, heading, nameIn, nameOf}
+use Rattle.lines.specs.Services.{Service, tasks, system, semaphores, services, heading, nameIn, nameOf}
 
--- the two bytes, as one number
-unfoldable pub key : List ℕ → ℕ
-key s = getD s 8 0 * 4 + getD s 10 0
+-- what can be told from the first 13 bytes: of bytes that begin with a text, what the text tells
+abbrev Early : (List ℕ → ℕ) → Type 0
+Early f = (s t : List ℕ) → begins s t ≡ true → 13 ≤ length t → f t ≡ f s
 
--- every name, with its comma, is long enough for both
+early-byte : (i : ℕ) → i < 13 → Early (λ s. getD s i 0)
+early-byte i h s t e g = sym (begins-at s t e i (omega arith))
+
+-- every name, with its comma, has 13
 long : List Service → Bool
 long [] = true
-long (x ∷ xs) = leb 11 (length (heading x)) && long xs
-
--- bytes that begin with a name have its key
-begins-key : (x : Service) (s : List ℕ) → 11 ≤ length (heading x) → begins s (heading x) ≡ true → key (heading x) ≡ key s
-unfolding key
-begins-key x s h e = rw (begins-at s (heading x) e 8 (omega arith), begins-at s (heading x) e 10 (omega arith))
-
--- the first of the services of the key h, from the number k on, whose heading begins s
-unfoldable pub keyed : List Service → ℕ → ℕ → List ℕ → Name
-keyed [] k h s = Unknown
-keyed (x ∷ xs) k h s =
-    let more = keyed xs (k + 1) h s in
-    cond (eqb (key (heading x)) h) (cond (begins s (heading x)) (Known k (x .takes) (length (heading x))) more) more
+long (x ∷ xs) = leb 13 (length (heading x)) && long xs
 
 both-left : (a b : Bool) → T (a && b) → T a
 both-left true b t = tt
@@ -43,27 +34,62 @@ both-right : (a b : Bool) → T (a && b) → T b
 both-right true b t = t
 both-right false b t = absurd t
 
--- no other is looked at in vain
-by-key : (xs : List Service) (k : ℕ) (s : List ℕ) → T (long xs) → keyed xs k (key s) s ≡ nameIn xs k s
+-- the first of the services whose heading has the key h and begins s, from the number k on
+unfoldable pub keyed : (List ℕ → ℕ) → List Service → ℕ → ℕ → List ℕ → Name
+keyed f [] k h s = Unknown
+keyed f (x ∷ xs) k h s =
+    let more = keyed f xs (k + 1) h s in
+    cond (eqb (f (heading x)) h) (cond (begins s (heading x)) (Known k (x .takes) (length (heading x))) more) more
+
+-- none of another key is looked at in vain
+by-key : (f : List ℕ → ℕ) → Early f → (xs : List Service) → T (long xs) → (k : ℕ) (s : List ℕ) → keyed f xs k (f s) s ≡ nameIn xs k s
 unfolding keyed nameIn long
-by-key [] k s t = refl
-by-key (x ∷ xs) k s t =
-    go (begins s (heading x)) refl (eqb (key (heading x)) (key s)) refl (by-key xs (k + 1) s (both-right (leb 11 (length (heading x))) (long xs) t))
+by-key f early [] t k s = refl
+by-key f early (x ∷ xs) t k s =
+    go (begins s (heading x)) refl (eqb (f (heading x)) (f s)) refl (by-key f early xs (both-right (leb 13 (length (heading x))) (long xs) t) (k + 1) s)
   where
     here : Name
     here = Known k (x .takes) (length (heading x))
 
-    go : (b : Bool) → begins s (heading x) ≡ b → (d : Bool) → eqb (key (heading x)) (key s) ≡ d → keyed xs (k + 1) (key s) s ≡ nameIn xs (k + 1) s
-        → cond d (cond b here (keyed xs (k + 1) (key s) s)) (keyed xs (k + 1) (key s) s) ≡ cond b here (nameIn xs (k + 1) s)
+    enough : 13 ≤ length (heading x)
+    enough = leb→le 13 (length (heading x)) (both-left (leb 13 (length (heading x))) (long xs) t)
+
+    go : (b : Bool) → begins s (heading x) ≡ b → (d : Bool) → eqb (f (heading x)) (f s) ≡ d → keyed f xs (k + 1) (f s) s ≡ nameIn xs (k + 1) s
+        → cond d (cond b here (keyed f xs (k + 1) (f s) s)) (keyed f xs (k + 1) (f s) s) ≡ cond b here (nameIn xs (k + 1) s)
     go true p true q ih = refl
-    go true p false q ih = absurd (false≢true (sym q ∙ eq-eqb (key (heading x)) (key s) (begins-key x s (leb→le 11 (length (heading x)) (both-left (leb 11 (length (heading x))) (long xs) t)) p)))
+    go true p false q ih = absurd (false≢true (sym q ∙ eq-eqb (f (heading x)) (f s) (early s (heading x) p enough)))
     go false p true q ih = ih
     go false p false q ih = ih
 
--- a and b are the bytes that were read, m the number that they make
-pub at-key : {r : Name} (s : List ℕ) {a b m : ℕ} → a ≡ getD s 8 0 → b ≡ getD s 10 0 → a * 4 + b ≡ m → r ≡ keyed services 0 m s → r ≡ nameOf s
-unfolding nameOf key services long heading
-at-key s {a} {b} {m} p q e f = f ∙ ap (λ (h : ℕ). keyed services 0 h s) (sym e ∙ (cc)) ∙ by-key services 0 s tt
+-- r is what the rows of the key m give, and m is what was read of s
+at-key : {r : Name} (f : List ℕ → ℕ) → Early f → (xs : List Service) → T (long xs) → (k : ℕ) (s : List ℕ) {m : ℕ} → m ≡ f s → r ≡ keyed f xs k m s → r ≡ nameIn xs k s
+at-key f early xs t k s e p = p ∙ ap (λ (h : ℕ). keyed f xs k h s) e ∙ by-key f early xs t k s
+
+-- ---- the keys that the reader goes by: a family's by one byte, a task's service by two, a semaphore's by one
+
+abbrev pub familyKey : List ℕ → ℕ
+familyKey s = getD s 4 0
+
+abbrev pub taskKey : List ℕ → ℕ
+taskKey s = getD s 8 0 + getD s 11 0
+
+abbrev pub semaphoreKey : List ℕ → ℕ
+semaphoreKey s = getD s 8 0
+
+early-task : Early taskKey
+early-task s t e g = rw (early-byte 8 (omega arith) s t e g, early-byte 11 (omega arith) s t e g)
+
+pub at-family : {r : Name} (s : List ℕ) {a m : ℕ} → a ≡ getD s 4 0 → a ≡ m → r ≡ keyed familyKey services 0 m s → r ≡ nameOf s
+unfolding nameOf services tasks system semaphores long heading
+at-family s p e q = at-key familyKey (early-byte 4 (omega arith)) services tt 0 s (sym e ∙ p) q
+
+pub at-task : {r : Name} (s : List ℕ) {a b m : ℕ} → a ≡ getD s 8 0 → b ≡ getD s 11 0 → a + b ≡ m → r ≡ keyed taskKey tasks 0 m s → r ≡ nameIn tasks 0 s
+unfolding tasks long heading
+at-task s p o e q = at-key taskKey early-task tasks tt 0 s (sym e ∙ (cc)) q
+
+pub at-semaphore : {r : Name} (s : List ℕ) {a m : ℕ} → a ≡ getD s 8 0 → a ≡ m → r ≡ keyed semaphoreKey semaphores 16 m s → r ≡ nameIn semaphores 16 s
+unfolding semaphores long heading
+at-semaphore s p e q = at-key semaphoreKey (early-byte 8 (omega arith)) semaphores tt 16 s (sym e ∙ p) q
 
 -- x is none of the keys, as a `match` says it in its last arm
 abbrev pub Rest : List ℕ → ℕ → Type 0 → Type 0
@@ -74,16 +100,51 @@ out : (ks : List ℕ) (x : ℕ) (N : Type 0) → Rest ks x N → N
 out [] x N r = r
 out (k ∷ ks) x N r = out ks x (N × (x ≡ k → ⊥)) r .0
 
-unfoldable pub keys : List Service → List ℕ
-keys [] = []
-keys (x ∷ xs) = key (heading x) ∷ keys xs
+has : List ℕ → ℕ → Bool
+has [] k = false
+has (j ∷ ks) k = cond (eqb k j) true (has ks k)
 
-pub no-key : (xs : List Service) (k h : ℕ) (s : List ℕ) (N : Type 0) → Rest (keys xs) h N → Unknown ≡ keyed xs k h s
-unfolding keyed keys
-no-key [] k h s N r = refl
-no-key (x ∷ xs) k h s N r =
-    let n = out (keys xs) h (N × (h ≡ key (heading x) → ⊥)) r .1 in
-    rw (ne-eqb (key (heading x)) h (λ q. n (sym q))) (no-key xs (k + 1) h s (N × (h ≡ key (heading x) → ⊥)) r)
+none-is : (ks : List ℕ) (x : ℕ) (N : Type 0) → Rest ks x N → (k : ℕ) → T (has ks k) → x ≡ k → ⊥
+unfolding has
+none-is [] x N r k t = absurd t
+none-is (j ∷ ks) x N r k t = go (eqb k j) refl t (λ u. none-is ks x (N × (x ≡ j → ⊥)) r k u)
+  where
+    go : (b : Bool) → eqb k j ≡ b → T (cond b true (has ks k)) → (T (has ks k) → x ≡ k → ⊥) → x ≡ k → ⊥
+    go true e u ih q = out ks x (N × (x ≡ j → ⊥)) r .1 (q ∙ eqb-true k j e)
+    go false e u ih q = ih u q
+
+-- every row's key is one of those
+covered : (List ℕ → ℕ) → List ℕ → List Service → Bool
+covered f ks [] = true
+covered f ks (x ∷ xs) = has ks (f (heading x)) && covered f ks xs
+
+no-key : (f : List ℕ → ℕ) (ks : List ℕ) (xs : List Service) → T (covered f ks xs) → (k h : ℕ) (s : List ℕ) → Rest ks h Unit → Unknown ≡ keyed f xs k h s
+unfolding keyed covered
+no-key f ks [] t k h s r = refl
+no-key f ks (x ∷ xs) t k h s r =
+    let n = none-is ks h Unit r (f (heading x)) (both-left (has ks (f (heading x))) (covered f ks xs) t) in
+    rw (ne-eqb (f (heading x)) h (λ q. n (sym q))) (no-key f ks xs (both-right (has ks (f (heading x))) (covered f ks xs) t) (k + 1) h s r)
+
+abbrev pub familyKeys : List ℕ
+familyKeys = 97 ∷ 121 ∷ 105 ∷ 101 ∷ []
+
+abbrev pub taskKeys : List ℕ
+taskKeys = 196 ∷ 201 ∷ 202 ∷ 221 ∷ 217 ∷ 225 ∷ 227 ∷ 231 ∷ 216 ∷ 220 ∷ 212 ∷ 215 ∷ 213 ∷ 209 ∷ []
+
+abbrev pub semaphoreKeys : List ℕ
+semaphoreKeys = 114 ∷ 101 ∷ 105 ∷ 115 ∷ 99 ∷ 111 ∷ 112 ∷ []
+
+pub no-family : (s : List ℕ) (h : ℕ) → h ≡ getD s 4 0 → Rest familyKeys h Unit → Unknown ≡ nameOf s
+unfolding services tasks system semaphores heading has covered
+no-family s h p r = at-family s p refl (no-key familyKey familyKeys services tt 0 h s r)
+
+pub no-task : (s : List ℕ) (a b : ℕ) → a ≡ getD s 8 0 → b ≡ getD s 11 0 → Rest taskKeys (a + b) Unit → Unknown ≡ nameIn tasks 0 s
+unfolding tasks heading has covered
+no-task s a b p o r = at-task s p o refl (no-key taskKey taskKeys tasks tt 0 (a + b) s r)
+
+pub no-semaphore : (s : List ℕ) (h : ℕ) → h ≡ getD s 8 0 → Rest semaphoreKeys h Unit → Unknown ≡ nameIn semaphores 16 s
+unfolding semaphores heading has covered
+no-semaphore s h p r = at-semaphore s p refl (no-key semaphoreKey semaphoreKeys semaphores tt 16 h s r)
 
 -- a number that is none of the n from i on, and not below i, is past them
 abbrev upFrom : ℕ → ℕ → List ℕ

@@ -25,9 +25,9 @@ pub record Service : Type 0 where
 abbrev row : String → ℕ → ℕ → ℕ → (ℕ → ℕ → ℕ → Call) → Service
 row t n d p f = record { name = bytes t; takes = n; timeout = d; priority = p; call = f }
 
--- by the number of the service
-unfoldable pub services : List Service
-services =
+-- those on tasks
+unfoldable pub tasks : List Service
+tasks =
     row "tn_task_create" 3 0 2 (λ a b c. TaskCreate a b c)
     ∷ row "tn_task_delete" 1 0 0 (λ a b c. TaskDelete a)
     ∷ row "tn_task_activate" 1 0 0 (λ a b c. TaskActivate a)
@@ -42,9 +42,19 @@ services =
     ∷ row "tn_task_release_wait" 1 0 0 (λ a b c. TaskReleaseWait a)
     ∷ row "tn_task_irelease_wait" 1 0 0 (λ a b c. TaskIreleaseWait a)
     ∷ row "tn_task_change_priority" 2 0 2 (λ a b c. TaskChangePriority a b)
-    ∷ row "tn_sys_tslice_ticks" 2 0 1 (λ a b c. SysTsliceTicks a b)
+    ∷ []
+
+-- time slices and the tick
+unfoldable pub system : List Service
+system =
+    row "tn_sys_tslice_ticks" 2 0 1 (λ a b c. SysTsliceTicks a b)
     ∷ row "tn_tick_int_processing" 0 0 0 (λ a b c. TickIntProcessing)
-    ∷ row "tn_sem_create" 3 0 0 (λ a b c. SemCreate a b c)
+    ∷ []
+
+-- those on semaphores
+unfoldable pub semaphores : List Service
+semaphores =
+    row "tn_sem_create" 3 0 0 (λ a b c. SemCreate a b c)
     ∷ row "tn_sem_delete" 1 0 0 (λ a b c. SemDelete a)
     ∷ row "tn_sem_signal" 1 0 0 (λ a b c. SemSignal a)
     ∷ row "tn_sem_isignal" 1 0 0 (λ a b c. SemIsignal a)
@@ -52,6 +62,10 @@ services =
     ∷ row "tn_sem_polling" 1 0 0 (λ a b c. SemPolling a)
     ∷ row "tn_sem_ipolling" 1 0 0 (λ a b c. SemIpolling a)
     ∷ []
+
+-- by the number of the service, from 0
+unfoldable pub services : List Service
+services = tasks ++ (system ++ semaphores)
 
 -- a number that names no service stands for the tick
 unfoldable pub service : ℕ → Service

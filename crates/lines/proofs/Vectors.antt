@@ -1,0 +1,89 @@
+-- Lines with what they read to: document 01's worked list, then each rule of its section on lists, kept and broken.
+-- antt computes the definitions on every row.
+use Prim.Native.String.{String}
+use mathlib.Core.Path.{_≡_, refl}
+use mathlib.Core.List.{List, [], _∷_}
+use Rattle.text.specs.Bytes.{bytes, begins}
+use Rattle.text.specs.Number.{isDigit, digits, valueAfter, ended, numberOf}
+use Rattle.model.specs.declared.Context.the-variants.{T, I}
+use Rattle.model.specs.declared.Call.the-variants.{TaskCreate, TaskExit, TaskSleep, TickIntProcessing, SemCreate, SemSignal, SemIsignal, SemAcquire, SemPolling}
+use Rattle.lines.specs.declared.line.Line.{Line}
+use Rattle.lines.specs.declared.line.Line.the-variants.{Reads, Unreadable}
+use Rattle.lines.specs.declared.line.Header.{Header}
+use Rattle.lines.specs.declared.line.Header.the-variants.{Ends, NoHeader}
+use Rattle.lines.specs.Services.{tasks, system, semaphores, services, service, callOf, heading, nameIn, nameOf}
+use Rattle.lines.specs.Fields.{fieldOf, commaField, endOf, lastField, fieldsOf}
+use Rattle.lines.specs.Lines.{letterOf, lineOf, headerOf}
+
+infix 20 _reads_
+pub data Row : Type 0 where
+  _reads_ : String → Line → Row
+
+abbrev pub given : List Row → List Line
+given [] = []
+given ((t reads l) ∷ rows) = lineOf (bytes t) ∷ given rows
+
+abbrev pub wanted : List Row → List Line
+wanted [] = []
+wanted ((t reads l) ∷ rows) = l ∷ wanted rows
+
+pub rows : List Row
+rows =
+    ("T,tn_sem_create,1,0,1\n" reads Reads T (SemCreate 1 0 1) 22)
+    ∷ ("T,tn_task_create,1,5,1\n" reads Reads T (TaskCreate 1 5 1) 23)
+    ∷ ("T,tn_task_create,2,5,1\n" reads Reads T (TaskCreate 2 5 1) 23)
+    ∷ ("T,tn_sem_acquire,1,2,\n" reads Reads T (SemAcquire 1 2) 22)
+    ∷ ("I,tn_tick_int_processing,,,\n" reads Reads I TickIntProcessing 28)
+    ∷ ("I,tn_sem_isignal,1,,\n" reads Reads I (SemIsignal 1) 21)
+    ∷ ("T,tn_sem_signal,1,,\n" reads Reads T (SemSignal 1) 20)
+    ∷ ("T,tn_task_exit,,,\n" reads Reads T TaskExit 18)
+    ∷ ("T,tn_sem_polling,1,,\n" reads Reads T (SemPolling 1) 21)
+    -- the line ends: CRLF, none, and what follows a line is another's
+    ∷ ("T,tn_task_exit,,,\r\n" reads Reads T TaskExit 19)
+    ∷ ("T,tn_task_exit,,," reads Reads T TaskExit 17)
+    ∷ ("T,tn_task_exit,,,\nT" reads Reads T TaskExit 18)
+    ∷ ("T,tn_task_exit,,,\r" reads Unreadable)
+    ∷ ("T,tn_task_exit,,,\r\r\n" reads Unreadable)
+    ∷ ("T,tn_task\r_exit,,,\n" reads Unreadable)
+    ∷ ("\n" reads Unreadable)
+    ∷ ("" reads Unreadable)
+    -- the numbers
+    ∷ ("T,tn_task_sleep,0,,\n" reads Reads T (TaskSleep 0) 20)
+    ∷ ("T,tn_task_sleep,4294967295,,\n" reads Reads T (TaskSleep 4294967295) 29)
+    ∷ ("T,tn_task_sleep,4294967296,,\n" reads Unreadable)
+    ∷ ("T,tn_task_sleep,10000000000,,\n" reads Unreadable)
+    ∷ ("T,tn_task_sleep,00,,\n" reads Unreadable)
+    ∷ ("T,tn_task_sleep,01,,\n" reads Unreadable)
+    ∷ ("T,tn_task_sleep,+1,,\n" reads Unreadable)
+    ∷ ("T,tn_task_sleep,1 ,,\n" reads Unreadable)
+    -- the fields: unused ones blank, used ones not, always five
+    ∷ ("T,tn_task_exit,0,,\n" reads Unreadable)
+    ∷ ("T,tn_sem_acquire,1,2,0\n" reads Unreadable)
+    ∷ ("T,tn_sem_acquire,1,,\n" reads Unreadable)
+    ∷ ("T,tn_sem_acquire,1,2\n" reads Unreadable)
+    ∷ ("T,tn_sem_acquire,1,2,,\n" reads Unreadable)
+    -- the context and the service
+    ∷ ("t,tn_task_exit,,,\n" reads Unreadable)
+    ∷ ("I,tn_task_exit,,,\n" reads Reads I TaskExit 18)
+    ∷ ("T,tn_task_isuspend,1,,\n" reads Unreadable)
+    ∷ ("T,tn_task_exi,,,\n" reads Unreadable)
+    ∷ []
+
+pub lines-read : given rows ≡ wanted rows
+unfolding rows lineOf letterOf nameOf nameIn heading services tasks system semaphores service callOf fieldsOf fieldOf commaField lastField endOf numberOf ended valueAfter digits isDigit begins
+lines-read = refl
+
+abbrev pub headers : List Header
+headers =
+    headerOf (bytes "ctx,service,a,b,c\n")
+    ∷ headerOf (bytes "ctx,service,a,b,c\r\nT")
+    ∷ headerOf (bytes "ctx,service,a,b,c")
+    ∷ headerOf (bytes "ctx,service,a,b,c,\n")
+    ∷ headerOf (bytes "ctx,service,a,b,c\r")
+    ∷ headerOf (bytes "\n")
+    ∷ headerOf (bytes "")
+    ∷ []
+
+pub headers-read : headers ≡ Ends 18 ∷ Ends 19 ∷ Ends 17 ∷ NoHeader ∷ NoHeader ∷ NoHeader ∷ NoHeader ∷ []
+unfolding headerOf endOf begins
+headers-read = refl
