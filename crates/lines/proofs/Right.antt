@@ -6,12 +6,12 @@ use mathlib.Core.List.{List, [], _∷_}
 use lib.Dec.{leb}
 use lib.ListN.{length}
 use Rattle.text.specs.Bytes.{begins}
-use Rattle.lines.specs.Services.{Service, tasks, system, semaphores, services, heading}
+use Rattle.lines.specs.Services.{Service, tasks, system, semaphores, services, label}
 
 -- neither name with its comma begins the other
 pub apart : Service → List Service → Bool
 apart x [] = true
-apart x (y ∷ ys) = not (begins (heading x) (heading y)) && not (begins (heading y) (heading x)) && apart x ys
+apart x (y ∷ ys) = not (begins (label x) (label y)) && not (begins (label y) (label x)) && apart x ys
 
 -- three numbers at most, and what is a timeout or a priority is one of those taken
 pub ranged : Service → Bool
@@ -22,7 +22,7 @@ right [] = true
 right (x ∷ xs) = ranged x && apart x xs && right xs
 
 pub table-right : right services ≡ true
-unfolding right ranged apart services tasks system semaphores heading begins
+unfolding right ranged apart services tasks system semaphores label begins
 table-right = refl
 
 pub table-size : length services ≡ 23

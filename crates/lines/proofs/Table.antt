@@ -12,7 +12,7 @@ use Rattle.text.specs.Bytes.{begins}
 use Rattle.text.proofs.Begins.{begins-at}
 use Rattle.lines.specs.declared.names.Name.{Name}
 use Rattle.lines.specs.declared.names.Name.the-variants.{Known, Unknown}
-use Rattle.lines.specs.Services.{Service, tasks, system, semaphores, services, heading, nameIn, nameOf}
+use Rattle.lines.specs.Services.{Service, tasks, system, semaphores, services, label, nameIn, nameOf}
 
 -- what can be told from the first 13 bytes: of bytes that begin with a text, what the text tells
 abbrev Early : (List ℕ → ℕ) → Type 0
@@ -24,7 +24,7 @@ early-byte i h s t e g = sym (begins-at s t e i (omega arith))
 -- every name, with its comma, has 13
 long : List Service → Bool
 long [] = true
-long (x ∷ xs) = leb 13 (length (heading x)) && long xs
+long (x ∷ xs) = leb 13 (length (label x)) && long xs
 
 both-left : (a b : Bool) → T (a && b) → T a
 both-left true b t = tt
@@ -34,30 +34,30 @@ both-right : (a b : Bool) → T (a && b) → T b
 both-right true b t = t
 both-right false b t = absurd t
 
--- the first of the services whose heading has the key h and begins s, from the number k on
+-- the first of the services whose label has the key h and begins s, from the number k on
 unfoldable pub keyed : (List ℕ → ℕ) → List Service → ℕ → ℕ → List ℕ → Name
 keyed f [] k h s = Unknown
 keyed f (x ∷ xs) k h s =
     let more = keyed f xs (k + 1) h s in
-    cond (eqb (f (heading x)) h) (cond (begins s (heading x)) (Known k (x .takes) (length (heading x))) more) more
+    cond (eqb (f (label x)) h) (cond (begins s (label x)) (Known k (x .takes) (length (label x))) more) more
 
 -- none of another key is looked at in vain
 by-key : (f : List ℕ → ℕ) → Early f → (xs : List Service) → T (long xs) → (k : ℕ) (s : List ℕ) → keyed f xs k (f s) s ≡ nameIn xs k s
 unfolding keyed nameIn long
 by-key f early [] t k s = refl
 by-key f early (x ∷ xs) t k s =
-    go (begins s (heading x)) refl (eqb (f (heading x)) (f s)) refl (by-key f early xs (both-right (leb 13 (length (heading x))) (long xs) t) (k + 1) s)
+    go (begins s (label x)) refl (eqb (f (label x)) (f s)) refl (by-key f early xs (both-right (leb 13 (length (label x))) (long xs) t) (k + 1) s)
   where
     here : Name
-    here = Known k (x .takes) (length (heading x))
+    here = Known k (x .takes) (length (label x))
 
-    enough : 13 ≤ length (heading x)
-    enough = leb→le 13 (length (heading x)) (both-left (leb 13 (length (heading x))) (long xs) t)
+    enough : 13 ≤ length (label x)
+    enough = leb→le 13 (length (label x)) (both-left (leb 13 (length (label x))) (long xs) t)
 
-    go : (b : Bool) → begins s (heading x) ≡ b → (d : Bool) → eqb (f (heading x)) (f s) ≡ d → keyed f xs (k + 1) (f s) s ≡ nameIn xs (k + 1) s
+    go : (b : Bool) → begins s (label x) ≡ b → (d : Bool) → eqb (f (label x)) (f s) ≡ d → keyed f xs (k + 1) (f s) s ≡ nameIn xs (k + 1) s
         → cond d (cond b here (keyed f xs (k + 1) (f s) s)) (keyed f xs (k + 1) (f s) s) ≡ cond b here (nameIn xs (k + 1) s)
     go true p true q ih = refl
-    go true p false q ih = absurd (false≢true (sym q ∙ eq-eqb (f (heading x)) (f s) (early s (heading x) p enough)))
+    go true p false q ih = absurd (false≢true (sym q ∙ eq-eqb (f (label x)) (f s) (early s (label x) p enough)))
     go false p true q ih = ih
     go false p false q ih = ih
 
@@ -80,15 +80,15 @@ early-task : Early taskKey
 early-task s t e g = rw (early-byte 8 (omega arith) s t e g, early-byte 11 (omega arith) s t e g)
 
 pub at-family : {r : Name} (s : List ℕ) {a m : ℕ} → a ≡ getD s 4 0 → a ≡ m → r ≡ keyed familyKey services 0 m s → r ≡ nameOf s
-unfolding nameOf services tasks system semaphores long heading
+unfolding nameOf services tasks system semaphores long label
 at-family s p e q = at-key familyKey (early-byte 4 (omega arith)) services tt 0 s (sym e ∙ p) q
 
 pub at-task : {r : Name} (s : List ℕ) {a b m : ℕ} → a ≡ getD s 8 0 → b ≡ getD s 11 0 → a + b ≡ m → r ≡ keyed taskKey tasks 0 m s → r ≡ nameIn tasks 0 s
-unfolding tasks long heading
+unfolding tasks long label
 at-task s p o e q = at-key taskKey early-task tasks tt 0 s (sym e ∙ (cc)) q
 
 pub at-semaphore : {r : Name} (s : List ℕ) {a m : ℕ} → a ≡ getD s 8 0 → a ≡ m → r ≡ keyed semaphoreKey semaphores 16 m s → r ≡ nameIn semaphores 16 s
-unfolding semaphores long heading
+unfolding semaphores long label
 at-semaphore s p e q = at-key semaphoreKey (early-byte 8 (omega arith)) semaphores tt 16 s (sym e ∙ p) q
 
 -- x is none of the keys, as a `match` says it in its last arm
@@ -116,14 +116,14 @@ none-is (j ∷ ks) x N r k t = go (eqb k j) refl t (λ u. none-is ks x (N × (x 
 -- every row's key is one of those
 covered : (List ℕ → ℕ) → List ℕ → List Service → Bool
 covered f ks [] = true
-covered f ks (x ∷ xs) = has ks (f (heading x)) && covered f ks xs
+covered f ks (x ∷ xs) = has ks (f (label x)) && covered f ks xs
 
 no-key : (f : List ℕ → ℕ) (ks : List ℕ) (xs : List Service) → T (covered f ks xs) → (k h : ℕ) (s : List ℕ) → Rest ks h Unit → Unknown ≡ keyed f xs k h s
 unfolding keyed covered
 no-key f ks [] t k h s r = refl
 no-key f ks (x ∷ xs) t k h s r =
-    let n = none-is ks h Unit r (f (heading x)) (both-left (has ks (f (heading x))) (covered f ks xs) t) in
-    rw (ne-eqb (f (heading x)) h (λ q. n (sym q))) (no-key f ks xs (both-right (has ks (f (heading x))) (covered f ks xs) t) (k + 1) h s r)
+    let n = none-is ks h Unit r (f (label x)) (both-left (has ks (f (label x))) (covered f ks xs) t) in
+    rw (ne-eqb (f (label x)) h (λ q. n (sym q))) (no-key f ks xs (both-right (has ks (f (label x))) (covered f ks xs) t) (k + 1) h s r)
 
 abbrev pub familyKeys : List ℕ
 familyKeys = 97 ∷ 121 ∷ 105 ∷ 101 ∷ []
@@ -135,15 +135,15 @@ abbrev pub semaphoreKeys : List ℕ
 semaphoreKeys = 114 ∷ 101 ∷ 105 ∷ 115 ∷ 99 ∷ 111 ∷ 112 ∷ []
 
 pub no-family : (s : List ℕ) (h : ℕ) → h ≡ getD s 4 0 → Rest familyKeys h Unit → Unknown ≡ nameOf s
-unfolding services tasks system semaphores heading has covered
+unfolding services tasks system semaphores label has covered
 no-family s h p r = at-family s p refl (no-key familyKey familyKeys services tt 0 h s r)
 
 pub no-task : (s : List ℕ) (a b : ℕ) → a ≡ getD s 8 0 → b ≡ getD s 11 0 → Rest taskKeys (a + b) Unit → Unknown ≡ nameIn tasks 0 s
-unfolding tasks heading has covered
+unfolding tasks label has covered
 no-task s a b p o r = at-task s p o refl (no-key taskKey taskKeys tasks tt 0 (a + b) s r)
 
 pub no-semaphore : (s : List ℕ) (h : ℕ) → h ≡ getD s 8 0 → Rest semaphoreKeys h Unit → Unknown ≡ nameIn semaphores 16 s
-unfolding semaphores heading has covered
+unfolding semaphores label has covered
 no-semaphore s h p r = at-semaphore s p refl (no-key semaphoreKey semaphoreKeys semaphores tt 16 h s r)
 
 -- a number that is none of the n from i on, and not below i, is past them

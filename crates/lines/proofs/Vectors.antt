@@ -11,7 +11,7 @@ use Rattle.lines.specs.declared.line.Line.{Line}
 use Rattle.lines.specs.declared.line.Line.the-variants.{Reads, Unreadable}
 use Rattle.lines.specs.declared.line.Header.{Header}
 use Rattle.lines.specs.declared.line.Header.the-variants.{Ends, NoHeader}
-use Rattle.lines.specs.Services.{tasks, system, semaphores, services, service, callOf, heading, nameIn, nameOf}
+use Rattle.lines.specs.Services.{tasks, system, semaphores, services, service, callOf, label, nameIn, nameOf}
 use Rattle.lines.specs.Fields.{fieldOf, commaField, endOf, lastField, fieldsOf}
 use Rattle.lines.specs.Lines.{letterOf, lineOf, headerOf}
 
@@ -70,7 +70,7 @@ rows =
     ∷ []
 
 pub lines-read : given rows ≡ wanted rows
-unfolding rows lineOf letterOf nameOf nameIn heading services tasks system semaphores service callOf fieldsOf fieldOf commaField lastField endOf numberOf ended valueAfter digits isDigit begins
+unfolding rows lineOf letterOf nameOf nameIn label services tasks system semaphores service callOf fieldsOf fieldOf commaField lastField endOf numberOf ended valueAfter digits isDigit begins
 lines-read = refl
 
 abbrev pub headers : List Header

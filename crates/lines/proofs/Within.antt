@@ -28,7 +28,7 @@ use Rattle.lines.specs.declared.line.Line.{Line}
 use Rattle.lines.specs.declared.line.Line.the-variants.{Reads, Unreadable}
 use Rattle.lines.specs.declared.line.Header.{Header}
 use Rattle.lines.specs.declared.line.Header.the-variants.{Ends, NoHeader}
-use Rattle.lines.specs.Services.{Service, services, heading, callOf, nameIn, nameOf}
+use Rattle.lines.specs.Services.{Service, services, label, callOf, nameIn, nameOf}
 use Rattle.lines.specs.Fields.{fieldOf, numberThen, commaField, endOf, endThen, lastField, fieldThen, fieldsOf}
 use Rattle.lines.specs.Lines.{letterOf, letterThen, nameThen, fieldsThen, lineOf, headerThen, headerOf}
 
@@ -133,8 +133,8 @@ name-among : (xs : List Service) (k : ℕ) (s : List ℕ) → NameIn (nameIn xs 
 unfolding nameIn
 name-among [] k s = tt
 name-among (x ∷ xs) k s =
-    cond-by (λ (t : Name). NameIn t (length s)) (begins s (heading x)) (Known k (x .takes) (length (heading x))) (nameIn xs (k + 1) s)
-    (λ e. begins-in s (heading x) e) (name-among xs (k + 1) s)
+    cond-by (λ (t : Name). NameIn t (length s)) (begins s (label x)) (Known k (x .takes) (length (label x))) (nameIn xs (k + 1) s)
+    (λ e. begins-in s (label x) e) (name-among xs (k + 1) s)
 
 pub name-in : (s : List ℕ) → NameIn (nameOf s) (length s)
 unfolding nameOf

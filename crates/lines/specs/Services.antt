@@ -75,17 +75,17 @@ unfoldable pub callOf : ℕ → ℕ → ℕ → ℕ → Call
 callOf k a b c = service k .call a b c
 
 -- a name's bytes with the comma after it
-unfoldable pub heading : Service → List ℕ
-heading x = x .name ++ bytes ","
+unfoldable pub label : Service → List ℕ
+label x = x .name ++ bytes ","
 
--- the service of that number, if its heading t begins s
+-- the service of that number, if its label t begins s
 unfoldable pub named : List ℕ → List ℕ → ℕ → ℕ → Name
 named s t k n = cond (begins s t) (Known k n (length t)) Unknown
 
--- the first of the services from the number k on whose heading begins s
+-- the first of the services from the number k on whose label begins s
 unfoldable pub nameIn : List Service → ℕ → List ℕ → Name
 nameIn [] k s = Unknown
-nameIn (x ∷ xs) k s = cond (begins s (heading x)) (Known k (x .takes) (length (heading x))) (nameIn xs (k + 1) s)
+nameIn (x ∷ xs) k s = cond (begins s (label x)) (Known k (x .takes) (length (label x))) (nameIn xs (k + 1) s)
 
 unfoldable pub nameOf : List ℕ → Name
 nameOf s = nameIn services 0 s

@@ -2,10 +2,10 @@
 // Each function is a definition of specs/Fields, for every value; it rests on text.
 ghost use mathlib.Core.Path.{_≡_};
 ghost use Rattle.lines.specs.Fields.{fieldOf, commaField, endOf, lastField, fieldsOf};
-use crate::names::byte_at;
 use text::number::Number;
 use text::number::read_number;
 use text::words::begins;
+use text::words::byte_at;
 
 // The length of a line end, or no line end.
 pub enum End {

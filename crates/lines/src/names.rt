@@ -1,24 +1,14 @@
 // The service whose name, with the comma after it, begins a part of a file.
 // Each function is a definition of specs/Services, for every value; it rests on text.
 ghost use mathlib.Core.Path.{_≡_};
-ghost use lib.ListN.{getD};
 ghost use Rattle.lines.specs.Services.{tasks, semaphores, named, nameIn, nameOf};
 use text::words::begins;
+use text::words::byte_at;
 
 // A service by its number in the table, how many numbers it takes, and the length of its name with the comma.
 pub enum Name {
     Known { number: u8, takes: u8, next: usize },
     Unknown,
-}
-
-// The byte at a place; 0 past the end.
-pub fn byte_at(s: &[u8], i: usize) -> u8
-    ensures { λ r. ⌜ r ≡ getD (now (s .entry)) i 0 ⌝ }
-{
-    if i < s.len() {
-        return s[i];
-    }
-    0
 }
 
 fn named(s: &[u8], t: &[u8], number: u8, takes: u8) -> Name

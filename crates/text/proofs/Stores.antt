@@ -8,7 +8,7 @@ use native.Mathlib.Nat.{add-zero, add-suc, suc-add}
 use native.Mathlib.Numerals.{add-one}
 use native.Mathlib.Omega.{arith}
 use lib.Dec.{leb}
-use lib.ListN.{length, set, getD, drop, drop-of-length-le}
+use lib.ListN.{length, set, getD, drop, drop-of-length-le, length-append}
 use lib.Seq.{sets, set-comm, drop-cons, length-sets}
 use borrow.Author.Tests.{leb-true, leb-false, le-leb, lt-leb, not-true, not-false}
 use Rattle.text.specs.Bytes.{put, after}
@@ -69,3 +69,20 @@ module _ (buf : List ℕ) (at : ℕ) (t : List ℕ) where
       go : (b : Bool) → length (cond b (sets buf at t) buf) ≡ length buf
       go true = length-sets buf at t
       go false = refl
+
+-- where both have room, one text after another is the two as one
+module _ (buf : List ℕ) (at : ℕ) (xs ys : List ℕ) (h : at + length (xs ++ ys) ≤ length buf) where
+  both : at + length xs + length ys ≤ length buf
+  both = omega (arith, length-append xs ys)
+
+  first : at + length xs ≤ length buf
+  first = omega (arith, both)
+
+  second : at + length xs + length ys ≤ length (sets buf at xs)
+  second = omega (arith, both, length-sets buf at xs)
+
+  pub put-append : put (put buf at xs) (after buf at xs) ys ≡ put buf at (xs ++ ys)
+  put-append = rw (after-room buf at xs first, put-room buf at xs first, put-room (sets buf at xs) (at + length xs) ys second, put-room buf at (xs ++ ys) h) (sym (sets-append buf at xs ys))
+
+  pub after-append : after (put buf at xs) (after buf at xs) ys ≡ after buf at (xs ++ ys)
+  after-append = rw (after-room buf at xs first, put-room buf at xs first, after-room (sets buf at xs) (at + length xs) ys second, after-room buf at (xs ++ ys) h) (omega (arith, length-append xs ys))

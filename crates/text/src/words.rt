@@ -1,10 +1,20 @@
-// Fixed words: looked for at the start of a part of a file, and put into a buffer.
+// Bytes and fixed words: looked for in a part of a file, and put into a buffer.
 // Each function is a definition of specs/Bytes, for every value.
 ghost use mathlib.Core.Path.{_≡_};
 ghost use Prim.Native.Nat.{_+_};
-ghost use lib.ListN.{length};
+ghost use lib.ListN.{getD, length};
 ghost use lib.Dec.{leb};
 ghost use Rattle.text.specs.Bytes.{begins, put, after};
+
+// The byte at a place; 0 past the end.
+pub fn byte_at(s: &[u8], i: usize) -> u8
+    ensures { λ r. ⌜ r ≡ getD (now (s .entry)) i 0 ⌝ }
+{
+    if i < s.len() {
+        return s[i];
+    }
+    0
+}
 
 // Whether s begins with t.
 pub fn begins(s: &[u8], t: &[u8]) -> bool

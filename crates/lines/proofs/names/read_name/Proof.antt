@@ -1,6 +1,6 @@
 -- `lines::names::read_name` meets its contract: in each arm the key leaves one family of the table to look at, in the last none.
 -- It rests on the laws of the table's keys, which antt computes.
-use Rattle.lines.specs.Services.{tasks, system, semaphores, services, heading, named, nameIn}
+use Rattle.lines.specs.Services.{tasks, system, semaphores, services, label, named, nameIn}
 use Rattle.lines.proofs.Table.{keyed, at-family, no-family}
 use borrow.Author.Needs.{needs}
 use Rattle.lines.proofs.names.read_name.Statement.{statement}
@@ -28,19 +28,19 @@ semaphore-name-requires : tie.Need-semaphore-name-requires
 semaphore-name-requires c κs = search needs
 
 returns : tie.Need-returns
-unfolding keyed nameIn services tasks system semaphores heading
+unfolding keyed nameIn services tasks system semaphores label
 returns c = at-family (c .before .before .before .before .args .s .now) (c .before .before .byte-at .ensures) (c .before .match .keys1) (c .task-name .ensures)
 
 returns-2 : tie.Need-returns-2
-unfolding keyed nameIn services tasks system semaphores heading named
+unfolding keyed nameIn services tasks system semaphores label named
 returns-2 c = at-family (c .before .before .before .before .before .args .s .now) (c .before .before .before .byte-at .ensures) (c .before .before .match .keys2) (c .named .ensures)
 
 returns-3 : tie.Need-returns-3
-unfolding keyed nameIn services tasks system semaphores heading named
+unfolding keyed nameIn services tasks system semaphores label named
 returns-3 c = at-family (c .before .before .before .before .before .args .s .now) (c .before .before .before .byte-at .ensures) (c .before .before .match .keys3) (c .named2 .ensures)
 
 returns-4 : tie.Need-returns-4
-unfolding keyed nameIn services tasks system semaphores heading
+unfolding keyed nameIn services tasks system semaphores label
 returns-4 c = at-family (c .before .before .before .before .args .s .now) (c .before .before .byte-at .ensures) (c .before .match .keys4) (c .semaphore-name .ensures)
 
 returns-5 : tie.Need-returns-5

@@ -1,6 +1,6 @@
 -- `lines::names::semaphore_name` meets its contract: in each arm the key leaves one row of the table to look at, in the last none.
 -- It rests on the laws of the table's keys, which antt computes.
-use Rattle.lines.specs.Services.{semaphores, heading, named}
+use Rattle.lines.specs.Services.{semaphores, label, named}
 use Rattle.lines.proofs.Table.{keyed, at-semaphore, no-semaphore}
 use borrow.Author.Needs.{needs}
 use Rattle.lines.proofs.names.semaphore_name.Statement.{statement}
@@ -52,31 +52,31 @@ named-requires-7 : tie.Need-named-requires-7
 named-requires-7 c κs = search needs
 
 returns : tie.Need-returns
-unfolding keyed semaphores heading named
+unfolding keyed semaphores label named
 returns c = at-semaphore (c .before .before .before .before .before .args .s .now) (c .before .before .before .byte-at .ensures) (c .before .before .match .keys1) (c .named .ensures)
 
 returns-2 : tie.Need-returns-2
-unfolding keyed semaphores heading named
+unfolding keyed semaphores label named
 returns-2 c = at-semaphore (c .before .before .before .before .before .args .s .now) (c .before .before .before .byte-at .ensures) (c .before .before .match .keys2) (c .named2 .ensures)
 
 returns-3 : tie.Need-returns-3
-unfolding keyed semaphores heading named
+unfolding keyed semaphores label named
 returns-3 c = at-semaphore (c .before .before .before .before .before .args .s .now) (c .before .before .before .byte-at .ensures) (c .before .before .match .keys3) (c .named3 .ensures)
 
 returns-4 : tie.Need-returns-4
-unfolding keyed semaphores heading named
+unfolding keyed semaphores label named
 returns-4 c = at-semaphore (c .before .before .before .before .before .args .s .now) (c .before .before .before .byte-at .ensures) (c .before .before .match .keys4) (c .named4 .ensures)
 
 returns-5 : tie.Need-returns-5
-unfolding keyed semaphores heading named
+unfolding keyed semaphores label named
 returns-5 c = at-semaphore (c .before .before .before .before .before .args .s .now) (c .before .before .before .byte-at .ensures) (c .before .before .match .keys5) (c .named5 .ensures)
 
 returns-6 : tie.Need-returns-6
-unfolding keyed semaphores heading named
+unfolding keyed semaphores label named
 returns-6 c = at-semaphore (c .before .before .before .before .before .args .s .now) (c .before .before .before .byte-at .ensures) (c .before .before .match .keys6) (c .named6 .ensures)
 
 returns-7 : tie.Need-returns-7
-unfolding keyed semaphores heading named
+unfolding keyed semaphores label named
 returns-7 c = at-semaphore (c .before .before .before .before .before .args .s .now) (c .before .before .before .byte-at .ensures) (c .before .before .match .keys7) (c .named7 .ensures)
 
 returns-8 : tie.Need-returns-8

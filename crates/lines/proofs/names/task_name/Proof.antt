@@ -1,6 +1,6 @@
 -- `lines::names::task_name` meets its contract: in each arm the key leaves one row of the table to look at, in the last none.
 -- It rests on the laws of the table's keys, which antt computes.
-use Rattle.lines.specs.Services.{tasks, heading, named}
+use Rattle.lines.specs.Services.{tasks, label, named}
 use Rattle.lines.proofs.Table.{keyed, at-task, no-task}
 use borrow.Author.Needs.{needs}
 use Rattle.lines.proofs.names.task_name.Statement.{statement}
@@ -106,59 +106,59 @@ named-requires-14 : tie.Need-named-requires-14
 named-requires-14 c κs = search needs
 
 returns : tie.Need-returns
-unfolding keyed tasks heading named
+unfolding keyed tasks label named
 returns c = at-task (c .before .before .before .before .before .before .args .s .now) (c .before .before .before .before .byte-at .ensures) (c .before .before .before .byte-at2 .ensures) (c .before .before .match .keys1) (c .named .ensures)
 
 returns-2 : tie.Need-returns-2
-unfolding keyed tasks heading named
+unfolding keyed tasks label named
 returns-2 c = at-task (c .before .before .before .before .before .before .args .s .now) (c .before .before .before .before .byte-at .ensures) (c .before .before .before .byte-at2 .ensures) (c .before .before .match .keys2) (c .named2 .ensures)
 
 returns-3 : tie.Need-returns-3
-unfolding keyed tasks heading named
+unfolding keyed tasks label named
 returns-3 c = at-task (c .before .before .before .before .before .before .args .s .now) (c .before .before .before .before .byte-at .ensures) (c .before .before .before .byte-at2 .ensures) (c .before .before .match .keys3) (c .named3 .ensures)
 
 returns-4 : tie.Need-returns-4
-unfolding keyed tasks heading named
+unfolding keyed tasks label named
 returns-4 c = at-task (c .before .before .before .before .before .before .args .s .now) (c .before .before .before .before .byte-at .ensures) (c .before .before .before .byte-at2 .ensures) (c .before .before .match .keys4) (c .named4 .ensures)
 
 returns-5 : tie.Need-returns-5
-unfolding keyed tasks heading named
+unfolding keyed tasks label named
 returns-5 c = at-task (c .before .before .before .before .before .before .args .s .now) (c .before .before .before .before .byte-at .ensures) (c .before .before .before .byte-at2 .ensures) (c .before .before .match .keys5) (c .named5 .ensures)
 
 returns-6 : tie.Need-returns-6
-unfolding keyed tasks heading named
+unfolding keyed tasks label named
 returns-6 c = at-task (c .before .before .before .before .before .before .args .s .now) (c .before .before .before .before .byte-at .ensures) (c .before .before .before .byte-at2 .ensures) (c .before .before .match .keys6) (c .named6 .ensures)
 
 returns-7 : tie.Need-returns-7
-unfolding keyed tasks heading named
+unfolding keyed tasks label named
 returns-7 c = at-task (c .before .before .before .before .before .before .args .s .now) (c .before .before .before .before .byte-at .ensures) (c .before .before .before .byte-at2 .ensures) (c .before .before .match .keys7) (c .named7 .ensures)
 
 returns-8 : tie.Need-returns-8
-unfolding keyed tasks heading named
+unfolding keyed tasks label named
 returns-8 c = at-task (c .before .before .before .before .before .before .args .s .now) (c .before .before .before .before .byte-at .ensures) (c .before .before .before .byte-at2 .ensures) (c .before .before .match .keys8) (c .named8 .ensures)
 
 returns-9 : tie.Need-returns-9
-unfolding keyed tasks heading named
+unfolding keyed tasks label named
 returns-9 c = at-task (c .before .before .before .before .before .before .args .s .now) (c .before .before .before .before .byte-at .ensures) (c .before .before .before .byte-at2 .ensures) (c .before .before .match .keys9) (c .named9 .ensures)
 
 returns-10 : tie.Need-returns-10
-unfolding keyed tasks heading named
+unfolding keyed tasks label named
 returns-10 c = at-task (c .before .before .before .before .before .before .args .s .now) (c .before .before .before .before .byte-at .ensures) (c .before .before .before .byte-at2 .ensures) (c .before .before .match .keys10) (c .named10 .ensures)
 
 returns-11 : tie.Need-returns-11
-unfolding keyed tasks heading named
+unfolding keyed tasks label named
 returns-11 c = at-task (c .before .before .before .before .before .before .args .s .now) (c .before .before .before .before .byte-at .ensures) (c .before .before .before .byte-at2 .ensures) (c .before .before .match .keys11) (c .named11 .ensures)
 
 returns-12 : tie.Need-returns-12
-unfolding keyed tasks heading named
+unfolding keyed tasks label named
 returns-12 c = at-task (c .before .before .before .before .before .before .args .s .now) (c .before .before .before .before .byte-at .ensures) (c .before .before .before .byte-at2 .ensures) (c .before .before .match .keys12) (c .named12 .ensures)
 
 returns-13 : tie.Need-returns-13
-unfolding keyed tasks heading named
+unfolding keyed tasks label named
 returns-13 c = at-task (c .before .before .before .before .before .before .args .s .now) (c .before .before .before .before .byte-at .ensures) (c .before .before .before .byte-at2 .ensures) (c .before .before .match .keys13) (c .named13 .ensures)
 
 returns-14 : tie.Need-returns-14
-unfolding keyed tasks heading named
+unfolding keyed tasks label named
 returns-14 c = at-task (c .before .before .before .before .before .before .args .s .now) (c .before .before .before .before .byte-at .ensures) (c .before .before .before .byte-at2 .ensures) (c .before .before .match .keys14) (c .named14 .ensures)
 
 returns-15 : tie.Need-returns-15

@@ -1,10 +1,10 @@
--- `lines::names::byte_at` meets its contract: past the end there is no byte.
+-- `text::words::byte_at` meets its contract: past the end there is no byte.
 -- It rests on lib.ListN.
 use mathlib.Core.Path.{sym}
 use lib.ListN.{List·getD-eq-default}
 use borrow.Author.Needs.{needs}
-use Rattle.lines.proofs.names.byte_at.Statement.{statement}
-use Rattle.lines.proofs.names.byte_at.Tie as tie
+use Rattle.text.proofs.words.byte_at.Statement.{statement}
+use Rattle.text.proofs.words.byte_at.Tie as tie
 
 shared-slice-read-result : tie.Need-shared-slice-read-result
 shared-slice-read-result c = search needs
