@@ -1,0 +1,101 @@
+//! The test of 'A sound state' on the library's layout, sentence by sentence.
+//! It holds on any bytes: nothing is indexed by a number that was not tested before.
+
+use crate::kernel::{LARGEST_SLICE, LEVELS, SEMAPHORES, TASKS};
+use crate::layout::{State, Task};
+
+pub fn is_sound(s: &State) -> bool {
+    nothing_at_place_zero(s)
+        && (1..=TASKS as usize).all(|t| task_is_sound(s, &s.tasks[t]))
+        && (1..=LEVELS as usize).all(|p| level_is_sound(s, p))
+        && (1..=SEMAPHORES as usize).all(|k| semaphore_is_sound(s, k))
+}
+
+/// Tasks, levels and semaphores begin at 1; place 0 of every table is all zeros.
+fn nothing_at_place_zero(s: &State) -> bool {
+    s.tasks[0] == Task::NONE
+        && s.level(0).iter().all(|&t| t == 0)
+        && s.waiters(0).iter().all(|&t| t == 0)
+        && s.slices[0] == 0
+        && s.charges[0] == 0
+        && s.counts[0] == 0
+        && s.maxima[0] == 0
+}
+
+fn task_is_sound(s: &State, task: &Task) -> bool {
+    if task.base == 0 {
+        return *task == Task::NONE; // objects not created are all zeros
+    }
+    numbers_in_range(task)
+        && waits_for_something_there(s, task)
+        && if task.wait == 0 { task.remaining == 0 } else { task.remaining >= 1 && task.code == 0 }
+        && (task.wait != 1 || task.wakeups == 0) // a sleeper's wakeup count is 0
+        && (task.active == 1 || is_at_rest(task))
+}
+
+/// Created ones have numbers in their ranges; the counts are 0 or 1; wait codes are 0, -4, -10 or -11.
+fn numbers_in_range(task: &Task) -> bool {
+    let level = 1..=LEVELS as u8;
+    level.contains(&task.base)
+        && level.contains(&task.priority)
+        && task.active <= 1
+        && task.suspended <= 1
+        && task.wakeups <= 1
+        && task.activations <= 1
+        && matches!(task.code, 0 | 4 | 10 | 11)
+}
+
+/// A task waits for nothing, a sleep or a created semaphore.
+fn waits_for_something_there(s: &State, task: &Task) -> bool {
+    match task.wait {
+        0 | 1 => task.object == 0,
+        2 => (1..=SEMAPHORES as u8).contains(&task.object) && s.maxima[task.object as usize] != 0,
+        _ => false,
+    }
+}
+
+/// A dormant task has no wait, suspension, counts or code, and its creation priority.
+fn is_at_rest(task: &Task) -> bool {
+    task.wait == 0
+        && task.suspended == 0
+        && task.wakeups == 0
+        && task.activations == 0
+        && task.code == 0
+        && task.priority == task.base
+}
+
+/// Slices are in range; charge is below the slice, or both are 0; the runnable tasks of this priority are listed.
+fn level_is_sound(s: &State, p: usize) -> bool {
+    let (slice, charge) = (s.slices[p], s.charges[p]);
+    u32::from(slice) <= LARGEST_SLICE
+        && (charge < slice || (charge == 0 && slice == 0))
+        && lists_exactly(s.level(p), s, |task| {
+            task.active == 1 && task.suspended == 0 && task.wait == 0 && usize::from(task.priority) == p
+        })
+}
+
+/// Count is at most maximum, and 0 while anyone waits; the tasks waiting on it are listed.
+/// One that is not created has maximum and count 0; that nobody may wait on it empties its queue.
+fn semaphore_is_sound(s: &State, k: usize) -> bool {
+    let waiters = s.waiters(k);
+    s.counts[k] <= s.maxima[k]
+        && (s.maxima[k] != 0 || waiters.iter().all(|&t| t == 0))
+        && (waiters[0] == 0 || s.counts[k] == 0)
+        && lists_exactly(waiters, s, |task| task.wait == 2 && usize::from(task.object) == k)
+}
+
+/// The row lists exactly the wanted tasks, once each, and its places past the end hold 0.
+fn lists_exactly(row: &[u8], s: &State, wanted: impl Fn(&Task) -> bool) -> bool {
+    let mut listed = [false; TASKS as usize + 1];
+    let end = row.iter().position(|&t| t == 0).unwrap_or(row.len());
+    if row[end..].iter().any(|&t| t != 0) {
+        return false;
+    }
+    for &t in &row[..end] {
+        match listed.get_mut(usize::from(t)) {
+            Some(once) if !*once => *once = true,
+            _ => return false, // no task, or listed twice
+        }
+    }
+    (1..=TASKS as usize).all(|t| listed[t] == wanted(&s.tasks[t]))
+}

@@ -1,0 +1,64 @@
+//! A kernel on the bench: each call is made in its own context and looked at from all sides.
+//! After every call the state must be sound, survive the library's layout, and be unchanged if the call was refused.
+#![allow(dead_code)]
+
+use peer::kernel::Kernel;
+use peer::layout::{load, store};
+use peer::services::{Call, SERVICES, TICK};
+use peer::sound::is_sound;
+
+pub struct Bench {
+    pub kernel: Kernel,
+}
+
+impl Bench {
+    pub fn fresh() -> Bench {
+        Bench { kernel: Kernel::fresh() }
+    }
+
+    pub fn make(&mut self, call: Call) -> (i32, u32) {
+        let before = self.kernel.clone();
+        let (code, running) = self.kernel.call(call.context, call.service, call.a, call.b, call.c);
+        let state = store(&self.kernel);
+        assert!(is_sound(&state), "unsound after {call}: {:?}", self.kernel);
+        assert_eq!(load(&state).as_ref(), Some(&self.kernel), "after {call}");
+        if code < 0 {
+            assert_eq!(self.kernel, before, "{call} was refused with {code} but changed the state");
+        }
+        assert_eq!(running as usize, self.kernel.running());
+        (code, running)
+    }
+
+    /// In the service's own context.
+    pub fn call(&mut self, service: u32, a: u32, b: u32, c: u32) -> (i32, u32) {
+        self.make(Call::of(service, a, b, c))
+    }
+
+    pub fn call1(&mut self, service: u32, a: u32) -> (i32, u32) {
+        self.call(service, a, 0, 0)
+    }
+
+    /// In the other context.
+    pub fn wrongly(&mut self, service: u32, a: u32, b: u32, c: u32) -> (i32, u32) {
+        let context = 1 - SERVICES[service as usize].context;
+        self.make(Call { context, service, a, b, c })
+    }
+
+    pub fn tick(&mut self) -> u32 {
+        let (code, running) = self.call(TICK, 0, 0, 0);
+        assert_eq!(code, 0);
+        running
+    }
+
+    pub fn level(&self, level: usize) -> &[u8] {
+        self.kernel.levels[level].queue.as_slice()
+    }
+
+    pub fn waiters(&self, semaphore: usize) -> &[u8] {
+        self.kernel.semaphores[semaphore].queue.as_slice()
+    }
+
+    pub fn code(&self, task: usize) -> i32 {
+        self.kernel.tasks[task].wait_code.into()
+    }
+}
