@@ -3,6 +3,7 @@
 
 pub mod kernel;
 pub mod layout;
+pub mod lists;
 pub mod queue;
 mod semaphores;
 pub mod services;
