@@ -1,12 +1,18 @@
 //! An independent program of document 01's rules: the base's 23 services, the sound state and the lists of calls.
 //! It is written from the documents alone, so that the proved library can be tested and timed against it.
 
+pub mod gen;
+pub mod gen_files;
+pub mod gen_lists;
+pub mod gen_states;
 pub mod kernel;
 pub mod layout;
 pub mod lists;
 pub mod queue;
 mod semaphores;
 pub mod services;
+pub mod shrink;
+pub mod slots;
 pub mod sound;
 mod tasks;
 mod time;

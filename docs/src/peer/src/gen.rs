@@ -1,0 +1,259 @@
+//! Repeatable random calls, rich in waits, suspended waiters, timeouts, restarts, slices and numbers at the limits.
+//! A run draws most of its numbers from a small world of its own, so that its tasks and semaphores meet often.
+
+use crate::services::*;
+
+/// A small generator of random numbers (splitmix64): the same seed gives the same numbers.
+#[derive(Clone)]
+pub struct Rng(u64);
+
+impl Rng {
+    pub fn new(seed: u64) -> Rng {
+        Rng(seed)
+    }
+
+    pub fn any(&mut self) -> u64 {
+        self.0 = self.0.wrapping_add(0x9e37_79b9_7f4a_7c15);
+        let mut z = self.0;
+        z = (z ^ (z >> 30)).wrapping_mul(0xbf58_476d_1ce4_e5b9);
+        z = (z ^ (z >> 27)).wrapping_mul(0x94d0_49bb_1331_11eb);
+        z ^ (z >> 31)
+    }
+
+    /// A number below `bound`, which is above 0.
+    pub fn below(&mut self, bound: usize) -> usize {
+        (self.any() % bound as u64) as usize
+    }
+
+    /// A number from `least` to `most`.
+    pub fn from(&mut self, least: u32, most: u32) -> u32 {
+        least + (self.any() % (u64::from(most - least) + 1)) as u32
+    }
+
+    pub fn pick<T: Copy>(&mut self, choices: &[T]) -> T {
+        choices[self.below(choices.len())]
+    }
+
+    /// True `times` times in a hundred.
+    pub fn percent(&mut self, times: usize) -> bool {
+        self.below(100) < times
+    }
+}
+
+/// Numbers at and past every limit.
+#[rustfmt::skip]
+pub const LIMITS: [u32; 22] = [
+    0, 1, 2, 11, 12, 13, 23, 24, 25, 29, 30, 31, 255, 256, 257, 999, 1000, 1001, 65_535, 65_536, u32::MAX - 1, u32::MAX,
+];
+
+/// How often each service is asked for, beside each other.
+const WEIGHTS: [(u32, usize); 23] = [
+    (CREATE, 6),
+    (DELETE, 3),
+    (ACTIVATE, 7),
+    (IACTIVATE, 8),
+    (EXIT, 3),
+    (TERMINATE, 5),
+    (SUSPEND, 7),
+    (RESUME, 7),
+    (SLEEP, 8),
+    (WAKEUP, 4),
+    (IWAKEUP, 5),
+    (RELEASE_WAIT, 2),
+    (IRELEASE_WAIT, 3),
+    (CHANGE_PRIORITY, 7),
+    (TSLICE, 2),
+    (TICK, 20),
+    (SEM_CREATE, 4),
+    (SEM_DELETE, 2),
+    (SIGNAL, 4),
+    (ISIGNAL, 5),
+    (ACQUIRE, 16),
+    (POLLING, 2),
+    (IPOLLING, 2),
+];
+
+/// The small world of one run: which tasks, levels and semaphores it mostly names, and how it behaves.
+pub struct World {
+    pub rng: Rng,
+    tasks: Vec<u32>,
+    levels: Vec<u32>,
+    semaphores: Vec<u32>,
+    longest_slice: u32,
+    wild: usize,    // percent of calls with any numbers at all
+    ticks: usize,   // percent of calls that are ticks beyond their weight
+    patient: usize, // percent of timeouts that are long
+    crowd: usize,   // percent of the first tasks that wait at once
+    eager: usize,   // percent of new tasks that are made runnable
+}
+
+impl World {
+    pub fn new(seed: u64) -> World {
+        let mut rng = Rng::new(seed);
+        let crowd = rng.pick(&[0, 0, 0, 50, 100]);
+        let most_tasks = if crowd > 0 { 40 } else { rng.pick(&[4, 8, 8, 80]) };
+        let tasks = some(&mut rng, 24, most_tasks);
+        let most_levels = rng.pick(&[1, 4, 4]);
+        let levels = some(&mut rng, 30, most_levels);
+        let semaphores = some(&mut rng, 12, 3);
+        let longest_slice = rng.pick(&[1, 2, 3, 5, 1000]);
+        let wild = rng.pick(&[1, 3, 3, 10, 40]);
+        let ticks = rng.pick(&[0, 5, 20, 50]);
+        let patient = rng.pick(&[10, 10, 40, 80]);
+        let eager = rng.pick(&[50, 80, 100]);
+        World { rng, tasks, levels, semaphores, longest_slice, wild, ticks, patient, crowd, eager }
+    }
+
+    /// The calls of a whole run: most of its objects are made first, then anything may happen.
+    pub fn run(&mut self, length: usize) -> Vec<Call> {
+        let mut calls = Vec::with_capacity(length);
+        for s in self.semaphores.clone() {
+            if self.rng.percent(90) {
+                calls.push(self.sem_create(s));
+            }
+        }
+        for p in self.levels.clone() {
+            if self.rng.percent(60) {
+                calls.push(Call::of(TSLICE, p, self.rng.from(0, self.longest_slice), 0));
+            }
+        }
+        for t in self.tasks.clone() {
+            if self.rng.percent(97) {
+                calls.push(self.task_create(t));
+            }
+            if self.rng.percent(self.crowd) {
+                calls.push(Call::of(ACQUIRE, self.semaphores[0], u32::MAX, 0));
+            }
+        }
+        calls.truncate(length);
+        while calls.len() < length {
+            calls.push(self.call());
+        }
+        calls
+    }
+
+    pub fn call(&mut self) -> Call {
+        if self.rng.percent(self.wild) {
+            return self.wild_call();
+        }
+        if self.rng.percent(self.ticks) {
+            return Call::of(TICK, 0, 0, 0);
+        }
+        let service = self.service();
+        let mut call = self.fitting_call(service);
+        if self.rng.percent(4) {
+            call.context = 1 - call.context;
+        }
+        if self.rng.percent(2) {
+            let limit = self.rng.pick(&LIMITS);
+            match self.rng.below(3) {
+                0 => call.a = limit,
+                1 => call.b = limit,
+                _ => call.c = limit,
+            }
+        }
+        call
+    }
+
+    fn service(&mut self) -> u32 {
+        let all: usize = WEIGHTS.iter().map(|&(_, weight)| weight).sum();
+        let mut at = self.rng.below(all);
+        for (service, weight) in WEIGHTS {
+            if at < weight {
+                return service;
+            }
+            at -= weight;
+        }
+        TICK
+    }
+
+    fn fitting_call(&mut self, service: u32) -> Call {
+        match service {
+            CREATE => {
+                let t = self.task();
+                self.task_create(t)
+            }
+            SEM_CREATE => {
+                let s = self.semaphore();
+                self.sem_create(s)
+            }
+            SLEEP => Call::of(SLEEP, self.timeout(), 0, 0),
+            CHANGE_PRIORITY => {
+                let p = if self.rng.percent(25) { 0 } else { self.level() };
+                Call::of(CHANGE_PRIORITY, self.task(), p, 0)
+            }
+            TSLICE => Call::of(TSLICE, self.level(), self.rng.from(0, self.longest_slice), 0),
+            EXIT | TICK => Call::of(service, 0, 0, 0),
+            ACQUIRE => Call::of(ACQUIRE, self.semaphore(), self.timeout(), 0),
+            SEM_DELETE | SIGNAL | ISIGNAL | POLLING | IPOLLING => Call::of(service, self.semaphore(), 0, 0),
+            _ => Call::of(service, self.task(), 0, 0),
+        }
+    }
+
+    /// Any service in any context with any numbers near a limit.
+    fn wild_call(&mut self) -> Call {
+        Call {
+            context: self.rng.from(T, I),
+            service: self.rng.from(CREATE, IPOLLING),
+            a: self.wild_number(),
+            b: self.wild_number(),
+            c: self.wild_number(),
+        }
+    }
+
+    pub fn wild_number(&mut self) -> u32 {
+        match self.rng.below(4) {
+            0 => self.rng.any() as u32,
+            1 => self.rng.from(0, 31),
+            _ => self.rng.pick(&LIMITS),
+        }
+    }
+
+    fn task_create(&mut self, task: u32) -> Call {
+        let option = u32::from(self.rng.percent(self.eager));
+        Call::of(CREATE, task, self.level(), option)
+    }
+
+    fn sem_create(&mut self, semaphore: u32) -> Call {
+        let maximum = self.rng.pick(&[1, 1, 1, 2, 3, 65_535]);
+        let start = match self.rng.below(4) {
+            0 => maximum,
+            1 => maximum - 1,
+            _ => 0,
+        };
+        Call::of(SEM_CREATE, semaphore, start, maximum)
+    }
+
+    fn task(&mut self) -> u32 {
+        self.rng.pick(&self.tasks)
+    }
+
+    fn level(&mut self) -> u32 {
+        self.rng.pick(&self.levels)
+    }
+
+    fn semaphore(&mut self) -> u32 {
+        self.rng.pick(&self.semaphores)
+    }
+
+    fn timeout(&mut self) -> u32 {
+        if self.rng.percent(self.patient) {
+            return self.rng.pick(&[u32::MAX, u32::MAX, 65_535, 65_536, u32::MAX - 1, 0]);
+        }
+        match self.rng.below(10) {
+            0 | 1 => self.rng.from(5, 40),
+            _ => self.rng.from(1, 4),
+        }
+    }
+}
+
+/// From one to `most` different numbers of 1..=`last`; all of them if there are not so many.
+fn some(rng: &mut Rng, last: u32, most: u32) -> Vec<u32> {
+    let mut numbers: Vec<u32> = (1..=last).collect();
+    for place in 0..numbers.len() {
+        let other = place + rng.below(numbers.len() - place);
+        numbers.swap(place, other);
+    }
+    numbers.truncate(rng.from(1, most) as usize);
+    numbers
+}

@@ -1,0 +1,80 @@
+//! States of the library's layout: those that random calls reach, and those with one number damaged.
+//! A damage is kept as place and value, so that it can be made again after other calls.
+
+use crate::gen::{Rng, World, LIMITS};
+use crate::kernel::Kernel;
+use crate::layout::{store, State};
+use crate::services::Call;
+use crate::slots;
+
+/// The state after these calls from the fresh one.
+pub fn after(calls: &[Call]) -> Kernel {
+    let mut kernel = Kernel::fresh();
+    for call in calls {
+        kernel.call(call.context, call.service, call.a, call.b, call.c);
+    }
+    kernel
+}
+
+/// A run of random calls and the state it reaches.
+pub fn reached(seed: u64) -> (Vec<Call>, State) {
+    let mut world = World::new(seed);
+    let length = world.rng.from(1, 150) as usize;
+    let calls = world.run(length);
+    let state = store(&after(&calls));
+    (calls, state)
+}
+
+#[derive(Clone, Copy, PartialEq, Eq, Debug)]
+pub struct Damage {
+    pub slot: usize,
+    pub value: u32,
+}
+
+impl Damage {
+    pub fn apply(&self, state: &State) -> State {
+        let mut damaged = *state;
+        slots::set(&mut damaged, self.slot, self.value);
+        damaged
+    }
+}
+
+impl std::fmt::Display for Damage {
+    fn fmt(&self, f: &mut std::fmt::Formatter<'_>) -> std::fmt::Result {
+        write!(f, "{} = {}", slots::name(self.slot), self.value)
+    }
+}
+
+/// A damage of any number, or of one that is in use, or of a neighbour of one in use.
+pub fn damage(rng: &mut Rng, state: &State) -> Damage {
+    let any = rng.below(slots::SLOTS);
+    let used = (0..slots::SLOTS).map(|step| (any + step) % slots::SLOTS).find(|&slot| slots::get(state, slot) != 0);
+    let slot = match (used, rng.below(3)) {
+        (Some(used), 0) => used,
+        (Some(used), 1) => (used + rng.pick(&[1, slots::SLOTS - 1])) % slots::SLOTS,
+        _ => any,
+    };
+    damage_at(rng, state, slot)
+}
+
+/// A new value for one number: most often one that could stand there in some state.
+pub fn damage_at(rng: &mut Rng, state: &State, slot: usize) -> Damage {
+    let old = slots::get(state, slot);
+    for _ in 0..10 {
+        let value = match rng.below(8) {
+            0 => 0,
+            1 => old.wrapping_add(1),
+            2 => old.wrapping_sub(1),
+            3 => rng.from(1, 3),
+            4 => rng.pick(&[4, 10, 11]),
+            5 => rng.from(1, 30),
+            6 => rng.pick(&LIMITS),
+            _ => rng.any() as u32,
+        };
+        let damage = Damage { slot, value };
+        if slots::get(&damage.apply(state), slot) != old {
+            return damage;
+        }
+    }
+    Damage { slot, value: old.wrapping_add(1) }
+}

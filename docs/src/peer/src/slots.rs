@@ -1,0 +1,98 @@
+//! Every number in the library's State by one running index, to damage any of them and to name the first that differs.
+//! The padding in a task's record is no number and has no index.
+
+use crate::layout::{State, LEVEL_PLACES, SEMAPHORE_PLACES, TASK_PLACES};
+use crate::queue::PLACES;
+
+const TASK_FIELDS: [&str; 10] =
+    ["base", "priority", "active", "suspended", "wait", "object", "wakeups", "activations", "code", "remaining"];
+
+const LEVELS_AT: usize = TASK_PLACES * TASK_FIELDS.len();
+const WAITS_AT: usize = LEVELS_AT + LEVEL_PLACES * PLACES;
+const SLICES_AT: usize = WAITS_AT + SEMAPHORE_PLACES * PLACES;
+const CHARGES_AT: usize = SLICES_AT + LEVEL_PLACES;
+const COUNTS_AT: usize = CHARGES_AT + LEVEL_PLACES;
+const MAXIMA_AT: usize = COUNTS_AT + SEMAPHORE_PLACES;
+const TIME_AT: usize = MAXIMA_AT + SEMAPHORE_PLACES;
+
+/// How many numbers a State holds.
+pub const SLOTS: usize = TIME_AT + 1;
+/// Those that are places of queues.
+pub const ROWS: std::ops::Range<usize> = LEVELS_AT..SLICES_AT;
+
+/// One number of a State, at its own width.
+enum Place<'a> {
+    Byte(&'a mut u8),
+    Half(&'a mut u16),
+    Word(&'a mut u32),
+}
+
+fn place(state: &mut State, slot: usize) -> Place<'_> {
+    match slot {
+        0..LEVELS_AT => {
+            let task = &mut state.tasks[slot / TASK_FIELDS.len()];
+            match slot % TASK_FIELDS.len() {
+                0 => Place::Byte(&mut task.base),
+                1 => Place::Byte(&mut task.priority),
+                2 => Place::Byte(&mut task.active),
+                3 => Place::Byte(&mut task.suspended),
+                4 => Place::Byte(&mut task.wait),
+                5 => Place::Byte(&mut task.object),
+                6 => Place::Byte(&mut task.wakeups),
+                7 => Place::Byte(&mut task.activations),
+                8 => Place::Byte(&mut task.code),
+                _ => Place::Word(&mut task.remaining),
+            }
+        }
+        LEVELS_AT..WAITS_AT => Place::Byte(&mut state.levels[slot - LEVELS_AT]),
+        WAITS_AT..SLICES_AT => Place::Byte(&mut state.waits[slot - WAITS_AT]),
+        SLICES_AT..CHARGES_AT => Place::Half(&mut state.slices[slot - SLICES_AT]),
+        CHARGES_AT..COUNTS_AT => Place::Half(&mut state.charges[slot - CHARGES_AT]),
+        COUNTS_AT..MAXIMA_AT => Place::Half(&mut state.counts[slot - COUNTS_AT]),
+        MAXIMA_AT..TIME_AT => Place::Half(&mut state.maxima[slot - MAXIMA_AT]),
+        _ => Place::Word(&mut state.time),
+    }
+}
+
+pub fn get(state: &State, slot: usize) -> u32 {
+    let mut copy = *state;
+    match place(&mut copy, slot) {
+        Place::Byte(n) => u32::from(*n),
+        Place::Half(n) => u32::from(*n),
+        Place::Word(n) => *n,
+    }
+}
+
+/// Writes the number, cut to the width of its place.
+pub fn set(state: &mut State, slot: usize, value: u32) {
+    match place(state, slot) {
+        Place::Byte(n) => *n = value as u8,
+        Place::Half(n) => *n = value as u16,
+        Place::Word(n) => *n = value,
+    }
+}
+
+pub fn name(slot: usize) -> String {
+    match slot {
+        0..LEVELS_AT => format!("tasks[{}].{}", slot / TASK_FIELDS.len(), TASK_FIELDS[slot % TASK_FIELDS.len()]),
+        LEVELS_AT..WAITS_AT => row("level", slot - LEVELS_AT),
+        WAITS_AT..SLICES_AT => row("waiters of semaphore", slot - WAITS_AT),
+        SLICES_AT..CHARGES_AT => format!("slices[{}]", slot - SLICES_AT),
+        CHARGES_AT..COUNTS_AT => format!("charges[{}]", slot - CHARGES_AT),
+        COUNTS_AT..MAXIMA_AT => format!("counts[{}]", slot - COUNTS_AT),
+        MAXIMA_AT..TIME_AT => format!("maxima[{}]", slot - MAXIMA_AT),
+        _ => "time".to_string(),
+    }
+}
+
+fn row(what: &str, at: usize) -> String {
+    format!("{what} {}, place {}", at / PLACES, at % PLACES)
+}
+
+/// The numbers in which two states differ, as text; empty if they are equal.
+pub fn differences(ours: &State, theirs: &State) -> Vec<String> {
+    (0..SLOTS)
+        .filter(|&slot| get(ours, slot) != get(theirs, slot))
+        .map(|slot| format!("{}: peer {}, library {}", name(slot), get(ours, slot), get(theirs, slot)))
+        .collect()
+}

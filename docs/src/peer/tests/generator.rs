@@ -1,0 +1,166 @@
+//! What the random calls reach: every service with every code it can give, and the rare meetings that the rules are about.
+//! Each call is made on the bench, so every reached state is also tested for soundness and for unchanged refusals.
+
+mod common;
+use common::Bench;
+use peer::gen::World;
+use peer::gen_lists::{lines, readable};
+use peer::kernel::{Kernel, Wait};
+use peer::lists::{read_list, run_calls};
+use peer::services::*;
+use std::collections::BTreeMap;
+
+const RUNS: u64 = 1_000;
+const LENGTH: usize = 300;
+
+/// The codes that each service can answer with.
+const CODES: [(u32, &[i32]); 23] = [
+    (CREATE, &[0, -2, -5]),
+    (DELETE, &[0, -2, -5, -9]),
+    (ACTIVATE, &[0, -1, -2, -5, -9]),
+    (IACTIVATE, &[0, -1, -2, -5, -9]),
+    (EXIT, &[0, -2]),
+    (TERMINATE, &[0, -2, -5, -9]),
+    (SUSPEND, &[0, -1, -2, -3, -5, -9]),
+    (RESUME, &[0, -2, -3, -5, -9]),
+    (SLEEP, &[0, 1, -2, -5]),
+    (WAKEUP, &[0, -1, -2, -5, -9]),
+    (IWAKEUP, &[0, -1, -2, -5, -9]),
+    (RELEASE_WAIT, &[0, -2, -5, -9]),
+    (IRELEASE_WAIT, &[0, -2, -5, -9]),
+    (CHANGE_PRIORITY, &[0, -2, -5, -9]),
+    (TSLICE, &[0, -2, -5]),
+    (TICK, &[0, -2]),
+    (SEM_CREATE, &[0, -2, -5]),
+    (SEM_DELETE, &[0, -2, -5, -9]),
+    (SIGNAL, &[0, -1, -2, -5, -9]),
+    (ISIGNAL, &[0, -1, -2, -5, -9]),
+    (ACQUIRE, &[0, 1, -2, -5, -9]),
+    (POLLING, &[0, -2, -4, -5, -9]),
+    (IPOLLING, &[0, -2, -4, -5, -9]),
+];
+
+/// The rare meetings that one accepted call shows.
+fn meetings(before: &Kernel, call: &Call, after: &Kernel) -> Vec<&'static str> {
+    let mut seen = Vec::new();
+    let mut expired = 0;
+    for (old, new) in before.tasks.iter().zip(&after.tasks) {
+        let ended = old.is_waiting() && !new.is_waiting();
+        match call.service {
+            TICK if ended => {
+                expired += 1;
+                seen.push(if old.wait == Wait::Sleep { "a sleep runs out" } else { "a semaphore wait times out" });
+                if old.suspended {
+                    seen.push("a suspended waiter times out");
+                }
+            }
+            SIGNAL | ISIGNAL if ended => {
+                seen.push(if old.suspended { "a suspended waiter is served" } else { "a waiter is served" })
+            }
+            WAKEUP | IWAKEUP if ended && old.suspended => seen.push("a suspended sleeper is woken"),
+            RELEASE_WAIT | IRELEASE_WAIT if ended && old.wakeups == 1 => seen.push("a release beside a wakeup count"),
+            SEM_DELETE if ended && old.suspended => seen.push("a deletion ends a suspended wait"),
+            _ => {}
+        }
+    }
+    if expired >= 2 {
+        seen.push("two waits run out in one tick");
+    }
+    if after.levels.iter().any(|level| level.queue.as_slice().len() >= 20) {
+        seen.push("a level of 20 tasks");
+    }
+    if after.semaphores.iter().any(|semaphore| semaphore.queue.as_slice().len() >= 12) {
+        seen.push("a semaphore with 12 waiters");
+    }
+    if after.levels.iter().any(|level| level.queue.as_slice().len() == 24) {
+        seen.push("a full level");
+    }
+    if after.semaphores.iter().any(|semaphore| semaphore.queue.as_slice().len() == 24) {
+        seen.push("a full wait queue");
+    }
+    let subject = before.tasks.get(call.a as usize).copied().unwrap_or(before.tasks[0]);
+    let caller = before.tasks[before.running()];
+    match call.service {
+        EXIT if caller.activations == 1 => seen.push("an exit restarts"),
+        EXIT if caller.priority != caller.base => seen.push("an exit restores the priority"),
+        TERMINATE if subject.activations == 1 && subject.is_waiting() && subject.suspended => {
+            seen.push("a waiting and suspended task is restarted")
+        }
+        TERMINATE if subject.activations == 1 => seen.push("a termination restarts"),
+        TERMINATE if subject.is_waiting() => seen.push("a waiter is terminated"),
+        CHANGE_PRIORITY if subject.is_waiting() => seen.push("a waiter's priority changes"),
+        CHANGE_PRIORITY if before.running() != after.running() => seen.push("a priority change takes the processor"),
+        RESUME if subject.is_waiting() => seen.push("a resumed waiter waits on"),
+        SEM_DELETE if before.semaphores[call.a as usize].queue.as_slice().len() >= 3 => {
+            seen.push("a deletion with 3 waiters")
+        }
+        SUSPEND if call.a as usize == before.running() => seen.push("a task suspends itself"),
+        SLEEP | ACQUIRE if caller.wait_code != 0 => seen.push("a wait after a wait code"),
+        TICK => {
+            let level = before.levels.iter().zip(&after.levels).find(|(old, _)| !old.queue.is_empty());
+            if let Some((old, new)) = level {
+                if old.charge + 1 == old.slice && old.queue.as_slice().len() >= 2 {
+                    seen.push(if expired > 0 { "a level turns as a wait runs out" } else { "a level turns" });
+                }
+                if old.charge > 0 && new.charge > old.charge {
+                    seen.push("a charge rises above 1");
+                }
+            }
+        }
+        _ => {}
+    }
+    seen
+}
+
+const MEETINGS: usize = 27;
+
+#[test]
+fn random_calls_reach_every_code_and_meeting() {
+    let mut codes: BTreeMap<(u32, i32), usize> = BTreeMap::new();
+    let mut met: BTreeMap<&str, usize> = BTreeMap::new();
+    for seed in 0..RUNS {
+        let mut bench = Bench::fresh();
+        for call in World::new(seed).run(LENGTH) {
+            let before = bench.kernel.clone();
+            let (code, _) = bench.make(call);
+            *codes.entry((call.service, code)).or_default() += 1;
+            if code >= 0 {
+                for meeting in meetings(&before, &call, &bench.kernel) {
+                    *met.entry(meeting).or_default() += 1;
+                }
+            }
+        }
+    }
+    println!("{codes:?}\n{met:#?}");
+    for (service, possible) in CODES {
+        let given: Vec<i32> = codes.keys().filter(|key| key.0 == service).map(|key| key.1).collect();
+        let mut wanted = possible.to_vec();
+        wanted.sort();
+        assert_eq!(given, wanted, "{}", SERVICES[service as usize].name);
+    }
+    for (what, times) in codes.iter().map(|(what, times)| (format!("{what:?}"), times)) {
+        assert!(*times >= 20, "{what} only {times} times");
+    }
+    assert_eq!(met.len(), MEETINGS, "{met:#?}");
+    for (what, times) in met {
+        assert!(times >= 20, "{what} only {times} times");
+    }
+}
+
+#[test]
+fn the_same_seed_gives_the_same_calls() {
+    assert_eq!(World::new(5).run(500), World::new(5).run(500));
+    assert_ne!(World::new(5).run(500), World::new(6).run(500));
+}
+
+#[test]
+fn lists_of_random_calls_are_read_back() {
+    for seed in 0..300 {
+        let mut world = World::new(seed);
+        let calls = world.run(100);
+        let file = readable(&mut world.rng, &calls);
+        let read = read_list(&file).expect("a readable list");
+        assert_eq!(lines(&read), lines(&calls)); // unused numbers are not written
+        assert_eq!(run_calls(&read), run_calls(&calls));
+    }
+}

@@ -1,0 +1,200 @@
+//! The test of 'A sound state': each sentence broken on its own, and changes that break none.
+//! The start is one state with tasks in every condition.
+
+use peer::gen::Rng;
+use peer::gen_states::{damage, damage_at, reached};
+use peer::kernel::FOREVER;
+use peer::layout::{call, load, store, State, Task};
+use peer::services::*;
+use peer::slots::{self, SLOTS};
+use peer::sound::is_sound;
+
+/// Level 5: [1, 2]; 3 waits on semaphore 4 and is suspended, then 6; 7 sleeps; 8 is dormant, 9 suspended.
+fn sample() -> State {
+    let calls = [
+        (SEM_CREATE, 4, 0, 9),
+        (SEM_CREATE, 12, 3, 65_535),
+        (CREATE, 3, 5, 1),
+        (ACQUIRE, 4, FOREVER, 0),
+        (CREATE, 6, 7, 1),
+        (ACQUIRE, 4, 8, 0),
+        (CREATE, 7, 30, 1),
+        (SLEEP, 65_535, 0, 0),
+        (CREATE, 8, 1, 0),
+        (CREATE, 9, 1, 1),
+        (SUSPEND, 9, 0, 0),
+        (SUSPEND, 3, 0, 0),
+        (CREATE, 1, 5, 1),
+        (CREATE, 2, 5, 1),
+        (TSLICE, 5, 3, 0),
+        (TICK, 0, 0, 0),
+    ];
+    let mut state = State::FRESH;
+    for (service, a, b, c) in calls {
+        let reply = call(&state, Call::of(service, a, b, c));
+        assert!(reply.code >= 0);
+        state = reply.state;
+    }
+    assert_eq!((state.level(5)[..3].to_vec(), state.waiters(4)[..3].to_vec()), (vec![1, 2, 0], vec![3, 6, 0]));
+    state
+}
+
+fn with(change: impl FnOnce(&mut State)) -> bool {
+    let mut state = sample();
+    change(&mut state);
+    is_sound(&state)
+}
+
+const LEVEL_5: usize = 5 * 24;
+const SEMAPHORE_4: usize = 4 * 24;
+
+#[test]
+fn sound_as_it_is_and_at_any_time() {
+    assert!(is_sound(&State::FRESH) && is_sound(&sample()));
+    for time in [1, 65_535, u32::MAX] {
+        assert!(with(|s| s.time = time));
+    }
+}
+
+#[test]
+fn harmless_changes() {
+    assert!(with(|s| s.levels.swap(LEVEL_5, LEVEL_5 + 1)));
+    assert!(with(|s| s.waits.swap(SEMAPHORE_4, SEMAPHORE_4 + 1)));
+    assert!(with(|s| s.charges[5] = 2));
+    assert!(with(|s| s.slices[5] = 1_000));
+    assert!(with(|s| s.counts[12] = 65_535));
+    assert!(with(|s| s.tasks[6].remaining = FOREVER));
+    assert!(with(|s| s.tasks[6].wakeups = 1));
+    assert!(with(|s| s.tasks[7].activations = 1));
+    assert!(with(|s| s.tasks[7].suspended = 1));
+    assert!(with(|s| s.tasks[6].priority = 1)); // a waiter may have any priority
+    for code in [0, 4, 10, 11] {
+        assert!(with(|s| s.tasks[1].code = code));
+        assert!(with(|s| s.tasks[9].code = code));
+    }
+}
+
+#[test]
+fn levels_list_exactly_the_runnable_tasks_once_each() {
+    assert!(!with(|s| s.levels[LEVEL_5 + 1] = 0)); // 2 is missing
+    assert!(!with(|s| s.levels[LEVEL_5 + 1] = 1)); // 1 twice, 2 missing
+    assert!(!with(|s| s.levels[LEVEL_5 + 2] = 2)); // 2 twice
+    for other in [3, 7, 8, 9, 10, 25, 255] {
+        assert!(!with(|s| s.levels[LEVEL_5 + 2] = other));
+    }
+    assert!(!with(|s| s.tasks[1].priority = 6)); // in the wrong level
+    assert!(!with(|s| s.levels[6 * 24] = 1)); // in two levels
+    assert!(!with(|s| s.tasks[1].suspended = 1)); // not runnable
+    assert!(!with(|s| s.tasks[9].suspended = 0)); // runnable, not listed
+}
+
+#[test]
+fn semaphores_list_exactly_their_waiters_once_each() {
+    assert!(!with(|s| s.waits[SEMAPHORE_4 + 1] = 0));
+    assert!(!with(|s| s.waits[SEMAPHORE_4 + 1] = 3));
+    assert!(!with(|s| s.waits[SEMAPHORE_4 + 2] = 6));
+    for other in [1, 7, 8, 9, 10, 25, 255] {
+        assert!(!with(|s| s.waits[SEMAPHORE_4 + 2] = other));
+    }
+    assert!(!with(|s| s.tasks[3].object = 12));
+    assert!(!with(|s| s.waits[12 * 24] = 6));
+    assert!(!with(|s| s.tasks[7].wait = 2));
+}
+
+#[test]
+fn places_past_the_end_hold_0() {
+    assert!(!with(|s| s.levels.swap(LEVEL_5 + 1, LEVEL_5 + 2))); // a hole
+    assert!(!with(|s| s.waits.swap(SEMAPHORE_4 + 1, SEMAPHORE_4 + 23)));
+}
+
+#[test]
+fn counts_and_numbers() {
+    assert!(!with(|s| s.counts[4] = 1)); // someone waits
+    assert!(!with(|s| s.maxima[12] = 2)); // count above maximum
+    assert!(!with(|s| s.maxima[4] = 0)); // waited on, not created
+    assert!(!with(|s| s.counts[1] = 1)); // not created, not all zeros
+    assert!(!with(|s| s.slices[9] = 1_001));
+    assert!(!with(|s| s.charges[5] = 3)); // at the slice
+    assert!(!with(|s| s.charges[9] = 1)); // no slice
+    assert!(!with(|s| s.slices[5] = 1)); // charge 1
+    assert!(!with(|s| s.slices[5] = 0));
+}
+
+#[test]
+fn task_records() {
+    assert!(!with(|s| s.tasks[3].remaining = 0)); // a waiter without ticks
+    assert!(!with(|s| s.tasks[3].code = 4)); // a waiter with a code
+    assert!(!with(|s| s.tasks[1].remaining = 1)); // ticks without a wait
+    assert!(!with(|s| s.tasks[7].wakeups = 1)); // a sleeper with a wakeup
+    for t in [1, 3, 9] {
+        assert!(!with(|s| s.tasks[t].wakeups = 2));
+        assert!(!with(|s| s.tasks[t].activations = 2));
+        assert!(!with(|s| s.tasks[t].active = 2));
+        assert!(!with(|s| s.tasks[t].active = 0));
+        assert!(!with(|s| s.tasks[t].suspended = 2));
+        assert!(!with(|s| s.tasks[t].wait = 3));
+        assert!(!with(|s| s.tasks[t].base = 0));
+        assert!(!with(|s| s.tasks[t].base = 31));
+        assert!(!with(|s| s.tasks[t].priority = 0));
+        assert!(!with(|s| s.tasks[t].priority = 31));
+    }
+    for code in [1, 3, 5, 9, 12, 246, 252] {
+        assert!(!with(|s| s.tasks[1].code = code));
+    }
+    assert!(!with(|s| s.tasks[7].object = 4)); // a sleeper with an object
+    assert!(!with(|s| s.tasks[1].object = 4));
+    assert!(!with(|s| s.tasks[3].object = 13));
+}
+
+#[test]
+fn dormant_tasks_and_tasks_not_created() {
+    assert!(!with(|s| s.tasks[8].priority = 2));
+    assert!(!with(|s| s.tasks[8].base = 2));
+    assert!(!with(|s| s.tasks[8].active = 1));
+    for t in [8, 10] {
+        assert!(!with(|s| s.tasks[t].suspended = 1));
+        assert!(!with(|s| s.tasks[t].wakeups = 1));
+        assert!(!with(|s| s.tasks[t].activations = 1));
+        assert!(!with(|s| s.tasks[t].code = 4));
+        assert!(!with(|s| s.tasks[t].remaining = 1));
+        assert!(!with(|s| s.tasks[t].wait = 1));
+        assert!(!with(|s| s.tasks[t].object = 4));
+    }
+    assert!(!with(|s| s.tasks[10].priority = 1));
+    assert!(with(|s| s.tasks[10] = Task { base: 30, priority: 30, ..Task::NONE }));
+    assert!(!with(|s| s.tasks[10] = Task { base: 31, priority: 31, ..Task::NONE }));
+}
+
+#[test]
+fn place_0_of_every_table_is_all_zeros() {
+    for slot in (0..10).chain([250, 273, 994, 1017, 1306, 1337, 1368, 1381]) {
+        let mut state = sample();
+        slots::set(&mut state, slot, 1);
+        assert!(!is_sound(&state), "{}", slots::name(slot));
+    }
+    assert!(!with(|s| s.tasks[0] = s.tasks[8]));
+}
+
+#[test]
+fn an_unsound_state_comes_back_as_it_came() {
+    let mut rng = Rng::new(8);
+    let mut unsound = 0;
+    for seed in 0..100 {
+        let (_, state) = reached(seed);
+        for slot in 0..SLOTS {
+            let bad = damage_at(&mut rng, &state, slot).apply(&state);
+            let reply = call(&bad, Call::of(TICK, 0, 0, 0));
+            if is_sound(&bad) {
+                assert_eq!(reply.code, 0);
+                assert!(is_sound(&reply.state));
+                assert_eq!(store(&load(&bad).unwrap()), bad);
+            } else {
+                assert_eq!((reply.code, reply.running, reply.state), (-12, 0, bad));
+                unsound += 1;
+            }
+        }
+        let any = damage(&mut rng, &state);
+        assert_ne!(any.apply(&state), state, "{any}");
+    }
+    assert!(unsound > 130_000, "{unsound}");
+}
