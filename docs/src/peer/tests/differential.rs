@@ -1,0 +1,218 @@
+//! The proved library against the peer, call by call: code, running task and every number of the next state.
+//! What differs is cut down to the fewest calls and damages that still show it, and printed.
+#![cfg(linked)]
+
+use peer::gen::{Rng, World, LIMITS};
+use peer::gen_states::{after, damage, damage_at, reached, Damage};
+use peer::kernel::{Kernel, UNSOUND, WRONG_PARAM};
+use peer::layout::{self, store, Reply, State};
+use peer::services::*;
+use peer::shrink::shrink;
+use peer::slots::{differences, get, set, ROWS, SLOTS};
+use peer::sound::is_sound;
+
+extern "C" {
+    fn gritgarland_call(s: State, context: u32, service: u32, a: u32, b: u32, c: u32) -> Reply;
+    fn gritgarland_is_sound(s: State) -> bool;
+}
+
+fn library_call(state: &State, call: &Call) -> Reply {
+    // SAFETY: the layout is the library's, and any bytes are a State.
+    unsafe { gritgarland_call(*state, call.context, call.service, call.a, call.b, call.c) }
+}
+
+fn library_is_sound(state: &State) -> bool {
+    // SAFETY: as above.
+    unsafe { gritgarland_is_sound(*state) }
+}
+
+/// How the library's reply differs from the peer's, if it does.
+fn unlike(ours: &Reply, theirs: &Reply) -> Option<String> {
+    if ours == theirs {
+        return None;
+    }
+    let answer = format!("peer ({}, {}), library ({}, {})", ours.code, ours.running, theirs.code, theirs.running);
+    Some(format!("{answer}\n{}", differences(&ours.state, &theirs.state).join("\n")))
+}
+
+/// Makes the calls on both sides from the fresh state at this time; says what differs first.
+fn run_differs(time: u32, calls: &[Call]) -> Option<String> {
+    let mut kernel = Kernel::fresh();
+    kernel.time = time;
+    let mut state = store(&kernel);
+    for (number, call) in (1..).zip(calls) {
+        let (code, running) = kernel.call(call.context, call.service, call.a, call.b, call.c);
+        let theirs = library_call(&state, call);
+        if let Some(how) = unlike(&Reply { code, running, state: store(&kernel) }, &theirs) {
+            return Some(format!("at call {number}, {call}: {how}"));
+        }
+        if !library_is_sound(&theirs.state) {
+            return Some(format!("at call {number}, {call}: the library calls its next state unsound"));
+        }
+        state = theirs.state;
+    }
+    None
+}
+
+fn text(calls: &[Call]) -> String {
+    calls.iter().map(|call| format!("{call}\n")).collect()
+}
+
+const RUNS: u64 = 4_000;
+const LENGTH: usize = 300;
+
+/// Runs that share their seeds' remainder, so that two tests use two processors.
+fn random_runs(remainder: u64) {
+    for seed in (0..RUNS).filter(|seed| seed % 2 == remainder) {
+        let time = if seed % 5 == 0 { u32::MAX - (seed % 60) as u32 } else { 0 };
+        let calls = World::new(seed).run(LENGTH);
+        if run_differs(time, &calls).is_some() {
+            let fewest = shrink(&calls, |calls| run_differs(time, calls).is_some());
+            let how = run_differs(time, &fewest).unwrap_or_default();
+            panic!("seed {seed}, from time {time}, {} calls:\n{}{how}", fewest.len(), text(&fewest));
+        }
+    }
+}
+
+#[test]
+fn random_calls_even() {
+    random_runs(0);
+}
+
+#[test]
+fn random_calls_odd() {
+    random_runs(1);
+}
+
+#[test]
+fn a_long_run_of_ticks() {
+    let mut calls = vec![Call::of(SEM_CREATE, 1, 0, 1), Call::of(CREATE, 2, 9, 1), Call::of(SLEEP, 65_535, 0, 0)];
+    calls.extend([Call::of(CREATE, 1, 9, 1), Call::of(ACQUIRE, 1, 65_535, 0)]);
+    calls.extend([Call::of(TICK, 0, 0, 0)].repeat(65_537));
+    assert_eq!(run_differs(u32::MAX - 30_000, &calls), None);
+    let kernel = after(&calls[..calls.len() - 2]);
+    assert_eq!(kernel.levels[9].queue.as_slice(), [1, 2]);
+}
+
+/// Damages the state that the calls reach, then tests it and makes one more call; says what differs.
+fn damaged_differs(calls: &[Call], damages: &[Damage], last: &Call) -> Option<String> {
+    let mut state = store(&after(calls));
+    for damage in damages {
+        state = damage.apply(&state);
+    }
+    state_differs(&state, last)
+}
+
+fn state_differs(state: &State, last: &Call) -> Option<String> {
+    let sound = is_sound(state);
+    if library_is_sound(state) != sound {
+        return Some(format!("sound? peer {sound}, library {}", !sound));
+    }
+    let theirs = library_call(state, last);
+    if !sound && (theirs.code, theirs.running) != (UNSOUND, 0) {
+        return Some(format!("unsound, but the library answers ({}, {})", theirs.code, theirs.running));
+    }
+    unlike(&layout::call(state, *last), &theirs)
+}
+
+fn test_damaged(seed: u64, calls: &[Call], damages: &[Damage], last: &Call) {
+    if damaged_differs(calls, damages, last).is_none() {
+        return;
+    }
+    let damages = shrink(damages, |damages| damaged_differs(calls, damages, last).is_some());
+    let calls = shrink(calls, |calls| damaged_differs(calls, &damages, last).is_some());
+    let how = damaged_differs(&calls, &damages, last).unwrap_or_default();
+    let damaged: String = damages.iter().map(|damage| format!("{damage}\n")).collect();
+    panic!("seed {seed}:\n{}then the damages\n{damaged}then {last}: {how}", text(&calls));
+}
+
+/// Every number of a state in turn: 55,800 states with one of them damaged.
+#[test]
+fn every_number_damaged() {
+    let mut rng = Rng::new(11);
+    for seed in 0..40 {
+        let (calls, state) = reached(seed);
+        for slot in 0..SLOTS {
+            let last = World::new(rng.any()).call();
+            test_damaged(seed, &calls, &[damage_at(&mut rng, &state, slot)], &last);
+        }
+    }
+}
+
+/// Every number outside the queues, and every place of a queue up to the first free one, with each value that means
+/// something somewhere: about 200,000 states.
+#[test]
+fn every_value_that_means_something() {
+    let mut world = World::new(15);
+    let mut states = 0;
+    for seed in 5_000..5_025 {
+        let (calls, state) = reached(seed);
+        let used = |slot: usize| !ROWS.contains(&slot) || get(&state, slot) != 0 || get(&state, slot - 1) != 0;
+        for slot in (0..SLOTS).filter(|&slot| used(slot)) {
+            for value in (0..=32).chain([254, 255, 999, 1_000, 1_001, 65_534, 65_535, u32::MAX]) {
+                let last = world.call();
+                test_damaged(seed, &calls, &[Damage { slot, value }], &last);
+                states += 1;
+            }
+        }
+    }
+    assert!(states > 200_000, "{states}");
+}
+
+/// 30,000 states with one number damaged where it matters most, and 10,000 with two or three.
+#[test]
+fn numbers_in_use_damaged() {
+    let mut rng = Rng::new(12);
+    let (mut sound, mut unsound) = (0, 0);
+    for seed in 1_000..3_000 {
+        let (calls, state) = reached(seed);
+        for round in 0..20 {
+            let many = if round < 15 { 1 } else { rng.from(2, 3) };
+            let damages: Vec<Damage> = (0..many).map(|_| damage(&mut rng, &state)).collect();
+            let last = World::new(rng.any()).call();
+            test_damaged(seed, &calls, &damages, &last);
+            let damaged = damages.iter().fold(state, |state, damage| damage.apply(&state));
+            *(if is_sound(&damaged) { &mut sound } else { &mut unsound }) += 1;
+        }
+    }
+    assert!(sound > 1_000 && unsound > 20_000, "{sound} sound, {unsound} unsound");
+}
+
+#[test]
+fn any_numbers_at_all() {
+    let mut rng = Rng::new(13);
+    for _ in 0..3_000 {
+        let mut state = State::FRESH;
+        let small = rng.percent(50);
+        for slot in 0..SLOTS {
+            let value = if small { rng.from(0, 2) } else { rng.any() as u32 };
+            set(&mut state, slot, value);
+        }
+        let last = World::new(rng.any()).call();
+        assert_eq!(state_differs(&state, &last), None, "{state:?}");
+    }
+}
+
+#[test]
+fn unknown_contexts_and_services() {
+    let mut rng = Rng::new(14);
+    let contexts = [T, I, 2, 3, 84, 255, 256, 257, 1 << 31, u32::MAX];
+    let services = [0, 1, 16, 23, 24, 25, 46, 255, 256, 257, 272, 65_537, 1 << 31, u32::MAX];
+    for seed in 0..50 {
+        let (_, state) = reached(seed);
+        let running = layout::call(&state, Call { context: 2, service: 0, a: 0, b: 0, c: 0 }).running;
+        for context in contexts {
+            for service in services {
+                if context <= I && (CREATE..=IPOLLING).contains(&service) {
+                    continue;
+                }
+                let call = Call { context, service, a: rng.pick(&LIMITS), b: rng.pick(&LIMITS), c: rng.pick(&LIMITS) };
+                let expected = Reply { code: WRONG_PARAM, running, state };
+                assert_eq!(unlike(&expected, &library_call(&state, &call)), None, "seed {seed}, {call}");
+                let mut bad = state;
+                bad.tasks[0].base = 1;
+                assert_eq!(state_differs(&bad, &call), None, "seed {seed}, {call}");
+            }
+        }
+    }
+}
