@@ -22,15 +22,15 @@ early-byte : (i : ℕ) → i < 13 → Early (λ s. getD s i 0)
 early-byte i h s t e g = sym (begins-at s t e i (omega arith))
 
 -- every name, with its comma, has 13
-long : List Service → Bool
+unfoldable pub long : List Service → Bool
 long [] = true
 long (x ∷ xs) = leb 13 (length (label x)) && long xs
 
-both-left : (a b : Bool) → T (a && b) → T a
+pub both-left : (a b : Bool) → T (a && b) → T a
 both-left true b t = tt
 both-left false b t = t
 
-both-right : (a b : Bool) → T (a && b) → T b
+pub both-right : (a b : Bool) → T (a && b) → T b
 both-right true b t = t
 both-right false b t = absurd t
 

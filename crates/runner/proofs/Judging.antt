@@ -1,0 +1,95 @@
+-- What becomes of a file, from what the header, the lines and the buffer's length say. The kernel's step and its checked call give
+-- the same rows, since every state that a list reaches from the fresh one is sound. It rests on Playing, kept and tested.
+use Prim.Native.Nat.{ℕ, _+_, _<_, _≤_}
+use mathlib.Core.Path.{_≡_, refl, ap, sym, _∙_}
+use mathlib.Core.Bool.{true, false, cond}
+use mathlib.Core.List.{List, [], _∷_, _++_}
+use native.Mathlib.Omega.{arith}
+use lib.ListN.{length, take, length-append, length-take, length-map}
+use borrow.Author.Tests.{eq-eqb, ne-eqb, lt-ltb, le-ltb}
+use Rattle.text.specs.Bytes.{bytes}
+use Rattle.model.specs.declared.State.{State}
+use Rattle.model.specs.State.{fresh}
+use Rattle.model.specs.Test.{isSound}
+use Rattle.model.specs.Sound.{Sound}
+use Rattle.model.specs.Call as Calls
+use Rattle.kept.proofs.Kept.{sound-stays-sound, fresh-is-sound}
+use Rattle.tested.proofs.Same.{sound-exactly}
+use Rattle.lines.specs.declared.line.Header.{Header}
+use Rattle.lines.specs.declared.line.Header.the-variants.{Ends, NoHeader}
+use Rattle.lines.specs.Lines.{headerOf}
+use Rattle.runner.specs.declared.Played.{Played}
+use Rattle.runner.specs.declared.Ran.{Ran}
+use Rattle.runner.specs.declared.Ran.the-variants.{Wrote, TooLong, Unreadable, Short}
+use Rattle.runner.specs.Script.{Script, done, fault, next, scriptIn, scriptOf, faultOf}
+use Rattle.runner.specs.Rows.{Row, rowsBy, rowsText, textOf}
+use Rattle.runner.specs.Kept.{slotOf, keptRows, codesOf, runsOf, Plays}
+use Rattle.runner.specs.Outcome.{judged, ranOf}
+use Rattle.runner.proofs.Scripts.{rows-kept}
+
+-- ---- the step and the checked call
+same-rows : (p : Script) (s : State) → Sound s → rowsBy Calls.call s p ≡ rowsBy Calls.step s p
+unfolding rowsBy Calls.call
+same-rows done s k = refl
+same-rows (fault l) s k = refl
+same-rows (next x c p) s k =
+    rw (sound-exactly s .1 k) (ap (λ (rows : List Row). record { code = Calls.step s x c .code; running = Calls.step s x c .running } ∷ rows) (same-rows p (Calls.step s x c .state) (sound-stays-sound s x c k)))
+
+text-kept : (p : Script) → textOf p ≡ bytes "n,code,running\r\n" ++ keptRows 1 (codesOf (rowsBy Calls.step fresh p)) (runsOf (rowsBy Calls.step fresh p))
+unfolding textOf
+text-kept p = rw (same-rows p fresh fresh-is-sound, rows-kept 1 (rowsBy Calls.step fresh p))
+
+-- ---- the outcome
+module _ (file : List ℕ) (room : ℕ) where
+  pub long : 65536 < length file → TooLong ≡ ranOf file room
+  unfolding ranOf
+  long h = rw (lt-ltb _ _ h)
+
+  module _ (fits : length file ≤ 65536) where
+    judges : ranOf file room ≡ judged (scriptOf file) room
+    unfolding ranOf
+    judges = rw (le-ltb _ _ fits)
+
+    pub headless : headerOf file ≡ NoHeader → Unreadable 1 ≡ ranOf file room
+    unfolding scriptOf judged faultOf
+    headless e = rw (judges, e)
+
+    module _ (h : ℕ) (e : headerOf file ≡ Ends h) (r : Played) (p : Plays r (scriptIn h file 2)) where
+      script : scriptOf file ≡ scriptIn h file 2
+      unfolding scriptOf
+      script = rw e
+
+      pub faulty : (r .fault ≡ 0 → ⊥) → Unreadable (r .fault) ≡ ranOf file room
+      unfolding judged
+      faulty z = rw (judges, script, ← p .fault, ne-eqb _ _ z)
+
+      module _ (z : r .fault ≡ 0) where
+        none : faultOf (scriptIn h file 2) ≡ 0
+        none = sym (p .fault) ∙ z
+
+        pub text : textOf (scriptOf file) ≡ bytes "n,code,running\r\n" ++ keptRows 1 (take (r .count) (r .codes)) (take (r .count) (r .runs))
+        text = rw (script, text-kept (scriptIn h file 2), p .codes none, p .runs none)
+
+        pub size : r .total ≡ length (textOf (scriptOf file))
+        size =
+            p .total none
+            ∙ ap (λ (t : List ℕ). 16 + length t) (rows-kept 1 (rowsBy Calls.step fresh (scriptIn h file 2)))
+            ∙ sym (length-append (bytes "n,code,running\r\n") (keptRows 1 (codesOf (rowsBy Calls.step fresh (scriptIn h file 2))) (runsOf (rowsBy Calls.step fresh (scriptIn h file 2)))))
+            ∙ ap length (sym (text-kept (scriptIn h file 2)) ∙ ap textOf (sym script))
+
+        pub short : room < r .total → Short ≡ ranOf file room
+        unfolding judged
+        short g = let k : room < length (textOf (scriptIn h file 2)) = rw (size, script) at g in rw (judges, script, none, lt-ltb _ _ k)
+
+        pub wrote : r .total ≤ room → Wrote (r .total) ≡ ranOf file room
+        unfolding judged
+        wrote g = let k : length (textOf (scriptIn h file 2)) ≤ room = rw (size, script) at g in rw (judges, script, none, le-ltb _ _ k, size, script)
+
+        -- the rows that are kept have room in their tables, and their text in the buffer
+        pub kept : length (r .codes) ≡ 4096 → r .count ≤ 4096
+        kept q =
+            omega (arith, p .count none, length-take (r .count) (r .codes), ap length (p .codes none), length-map (rowsBy Calls.step fresh (scriptIn h file 2)) (λ (y : Row). slotOf (y .code)))
+
+        pub room-for : r .total ≤ room → 16 + length (keptRows 1 (take (r .count) (r .codes)) (take (r .count) (r .runs))) ≤ room
+        room-for g =
+            omega (arith, size ∙ ap length text, length-append (bytes "n,code,running\r\n") (keptRows 1 (take (r .count) (r .codes)) (take (r .count) (r .runs))))

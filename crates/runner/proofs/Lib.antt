@@ -1,0 +1,7 @@
+pub mod Widths
+pub mod Placing
+pub mod Scripts
+pub mod Playing
+pub mod Writing
+pub mod Judging
+pub mod Signed

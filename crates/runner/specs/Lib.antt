@@ -1,0 +1,4 @@
+pub mod Script
+pub mod Rows
+pub mod Kept
+pub mod Outcome

@@ -1,0 +1,221 @@
+// The runner: a file of calls and an answer buffer in, one number out. Every call is worked once, its code and running task are kept,
+// and the answer is written only when all lines were read and all of it fits. Rests on the line reader and the kernel's step.
+ghost use mathlib.Core.Path.{_≡_};
+ghost use Prim.Native.Nat.{_+_, _≤_};
+ghost use mathlib.Core.List.{_++_};
+ghost use lib.ListN.{length, take};
+ghost use lib.Seq.{sets};
+ghost use Rattle.text.specs.Bytes.{bytes};
+ghost use Rattle.runner.specs.Script.{scriptIn};
+ghost use Rattle.runner.specs.Kept.{slotOf, slotText, keptText, Plays, keptRows};
+ghost use Rattle.runner.specs.Outcome.{ranOf, numberOf, bufferOf, Small};
+use lines::line::Header;
+use lines::line::Line;
+use lines::line::read_header;
+use lines::line::read_line;
+use model::Code;
+use text::decimals::put_number;
+use text::decimals::width;
+use text::words::put_text;
+
+// What became of a file: the bytes written, or why it was refused.
+pub enum Ran {
+    Wrote(usize),
+    TooLong,
+    Unreadable(usize),
+    Short,
+}
+
+// The answers of a list, call by call: each code, without its sign's cost, as a number from 0 to 13, and each running task.
+pub struct Played {
+    pub fault: usize,
+    pub count: usize,
+    pub total: usize,
+    pub codes: [u8; 4096],
+    pub runs: [u8; 4096],
+}
+
+// ---- a kept code: the paper's number plus 12
+fn slot(code: Code) -> u8
+    ensures { λ r. ⌜ r ≡ slotOf code ⌝ }
+{
+    match code {
+        Code::NoErr => 12,
+        Code::Pending => 13,
+        Code::Overflow => 11,
+        Code::WContext => 10,
+        Code::WState => 9,
+        Code::Timeout => 8,
+        Code::WrongParam => 7,
+        Code::NoExs => 3,
+        Code::Dlt => 2,
+        Code::Released => 1,
+        Code::Unsound => 0,
+    }
+}
+
+fn slot_width(v: u8) -> usize
+    ensures { λ r. ⌜ r ≡ length (slotText v) ⌝ }
+{
+    if v < 12 {
+        return 1 + width((12 - v) as u32);
+    }
+    width((v - 12) as u32)
+}
+
+fn put_slot(buf: &mut [u8], at: usize, v: u8) -> usize
+    requires { ⌜ at + length (slotText v) ≤ length (now buf) ⌝ }
+    ensures { λ r. ⌜ (r ≡ at + length (slotText v)) × (now (buf .exit) ≡ sets (now (buf .entry)) at (slotText v)) ⌝ }
+{
+    if v < 12 {
+        let next = put_text(buf, at, b"-");
+        return put_number(buf, next, (12 - v) as u32);
+    }
+    put_number(buf, at, (v - 12) as u32)
+}
+
+// ---- one row of the answer
+fn row_width(n: u32, v: u8, running: u8) -> usize
+    ensures { λ r. ⌜ (r ≡ length (keptText n v running)) × (r ≤ 20) ⌝ }
+{
+    width(n) + slot_width(v) + width(running as u32) + 4
+}
+
+fn put_row(buf: &mut [u8], at: usize, n: u32, v: u8, running: u8) -> usize
+    requires { ⌜ at + length (keptText n v running) ≤ length (now buf) ⌝ }
+    ensures { λ r. ⌜ (r ≡ at + length (keptText n v running)) × (now (buf .exit) ≡ sets (now (buf .entry)) at (keptText n v running)) ⌝ }
+{
+    let a = put_number(buf, at, n);
+    let b = put_text(buf, a, b",");
+    let c = put_slot(buf, b, v);
+    let d = put_text(buf, c, b",");
+    let e = put_number(buf, d, running as u32);
+    put_text(buf, e, b"\r\n")
+}
+
+// ---- the calls, each worked once
+// The lines after the header, which has h bytes: their answers, or the first line that can't be read.
+fn play(file: &[u8], h: usize) -> Played
+    requires { ⌜ (17 ≤ h) × (h ≤ length (now file)) × (length (now file) ≤ 65536) ⌝ }
+    ensures { λ r. ⌜ Plays r (scriptIn h (now (file .entry)) 2) ⌝ }
+{
+    let mut codes = [0u8; 4096];
+    let mut runs = [0u8; 4096];
+    let mut at = h;
+    let mut n: usize = 0;
+    let mut total: usize = 16;
+    let none = records::no_task();
+    let mut tasks = [none; 25];
+    let mut levels = [0u8; 744];
+    let mut waits = [0u8; 312];
+    let mut slices = [0u16; 31];
+    let mut charges = [0u16; 31];
+    let mut counts = [0u16; 13];
+    let mut maxima = [0u16; 13];
+    let mut time: u32 = 0;
+    while at < file.len() {
+        let Line::Reads {
+            context,
+            call,
+            next,
+        } = read_line(&file[at..])
+        else {
+            return Played {
+                fault: n + 2,
+                count: n,
+                total,
+                codes,
+                runs,
+            };
+        };
+        let r = kernel::step_in(
+            tasks,
+            &mut levels,
+            &mut waits,
+            &mut slices,
+            &mut charges,
+            &mut counts,
+            &mut maxima,
+            &mut time,
+            context,
+            call,
+        );
+        let code = r.code;
+        let running = r.running;
+        let after = r.tasks;
+        tasks = after;
+        let v = slot(code);
+        codes[n] = v;
+        runs[n] = running;
+        n = n + 1;
+        total = total + row_width(n as u32, v, running);
+        at = at + next;
+    }
+    Played {
+        fault: 0,
+        count: n,
+        total,
+        codes,
+        runs,
+    }
+}
+
+// ---- the answer
+// The header and the first n kept rows, where there is room for them.
+fn write(answer: &mut [u8], n: usize, codes: [u8; 4096], runs: [u8; 4096])
+    requires { ⌜ (n ≤ 4096) × (16 + length (keptRows 1 (take n codes) (take n runs)) ≤ length (now answer)) ⌝ }
+    ensures { λ _. ⌜ now (answer .exit) ≡ sets (now (answer .entry)) 0 (bytes "n,code,running\r\n" ++ keptRows 1 (take n codes) (take n runs)) ⌝ }
+{
+    let mut out = put_text(answer, 0, b"n,code,running\r\n");
+    let mut i: usize = 0;
+    while i < n {
+        out = put_row(answer, out, i as u32 + 1, codes[i], runs[i]);
+        i += 1;
+    }
+}
+
+// A file and an answer buffer: the buffer is written only if every line reads and the whole answer fits.
+pub fn run(file: &[u8], answer: &mut [u8]) -> Ran
+    ensures { λ r. ⌜ (r ≡ ranOf (now (file .entry)) (length (now (answer .entry)))) × (now (answer .exit) ≡ bufferOf (ranOf (now (file .entry)) (length (now (answer .entry)))) (now (file .entry)) (now (answer .entry))) ⌝ }
+{
+    if 65536 < file.len() {
+        return Ran::TooLong;
+    }
+    let Header::Ends { next } = read_header(file) else {
+        return Ran::Unreadable(1);
+    };
+    let p = play(file, next);
+    let fault = p.fault;
+    let count = p.count;
+    let total = p.total;
+    if fault != 0 {
+        return Ran::Unreadable(fault);
+    }
+    if answer.len() < total {
+        return Ran::Short;
+    }
+    let codes = p.codes;
+    let runs = p.runs;
+    write(answer, count, codes, runs);
+    Ran::Wrote(total)
+}
+
+// The editor's number of each case.
+fn number(r: Ran) -> i64
+    requires { ⌜ Small r ⌝ }
+    ensures { λ z. ⌜ z ≡ numberOf r ⌝ }
+{
+    match r {
+        Ran::Wrote(n) => n as i64,
+        Ran::TooLong => -1,
+        Ran::Unreadable(line) => 0 - ((line + 10) as i64),
+        Ran::Short => -2,
+    }
+}
+
+pub fn run_list(file: &[u8], answer: &mut [u8]) -> i64
+    ensures { λ r. ⌜ (r ≡ numberOf (ranOf (now (file .entry)) (length (now (answer .entry))))) × (now (answer .exit) ≡ bufferOf (ranOf (now (file .entry)) (length (now (answer .entry)))) (now (file .entry)) (now (answer .entry))) ⌝ }
+{
+    let r = run(file, answer);
+    number(r)
+}
