@@ -103,6 +103,19 @@ gritgarland_reply gritgarland_call(gritgarland_state state, uint32_t context, ui
 /* Does a state keep every rule of a sound state? */
 bool gritgarland_is_sound(gritgarland_state state);
 
+/* ---- lists of calls */
+enum {
+    GRITGARLAND_FILE_MOST = 65536,   /* bytes of a file */
+    GRITGARLAND_ANSWER_MOST = 65536  /* bytes that are always enough for the answer */
+};
+
+/* Runs the list of calls in `file` from the fresh state and writes the answer. Returns the bytes written; or, with no byte of
+   `answer` changed: -1, the file is too long; -(10 + line), the first line that can't be read, the header being line 1;
+   -2, the answer does not fit. Bytes beyond those written stay.
+   What can't be checked here and is the caller's to see to: the two buffers do not overlap, each has as many bytes as is said,
+   and a null pointer comes only with length 0. */
+int64_t run_list(const uint8_t *file, size_t file_length, uint8_t *answer, size_t answer_length);
+
 #ifdef __cplusplus
 }
 #endif

@@ -1,8 +1,10 @@
 // Every entry that callers in other languages have, each a thin relay with the promise of what it relays.
-// include/gritgarland.h declares them. Rests on the border and the test of soundness.
+// include/gritgarland.h declares them. Rests on the border, the test of soundness and the runner.
 ghost use mathlib.Core.Path.{_≡_};
+ghost use lib.ListN.{length};
 ghost use Rattle.model.specs.Test.{isSound};
 ghost use Rattle.border.specs.Border.{reply};
+ghost use Rattle.runner.specs.Outcome.{ranOf, numberOf, bufferOf};
 use border::Reply;
 use model::State;
 
@@ -27,4 +29,12 @@ pub extern "C" fn gritgarland_is_sound(s: State) -> bool
     ensures { λ r. ⌜ r ≡ isSound s ⌝ }
 {
     sound::is_sound(s)
+}
+
+// A whole list of calls: the file's bytes and an answer buffer in, one signed number out.
+#[no_mangle]
+pub extern "C" fn run_list(file: &[u8], answer: &mut [u8]) -> i64
+    ensures { λ r. ⌜ (r ≡ numberOf (ranOf (now (file .entry)) (length (now (answer .entry))))) × (now (answer .exit) ≡ bufferOf (ranOf (now (file .entry)) (length (now (answer .entry)))) (now (file .entry)) (now (answer .entry))) ⌝ }
+{
+    runner::run_list(file, answer)
 }

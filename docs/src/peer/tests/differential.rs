@@ -1,6 +1,6 @@
 //! The proved library against the peer, call by call: code, running task and every number of the next state.
 //! What differs is cut down to the fewest calls and damages that still show it, and printed.
-#![cfg(linked)]
+#![cfg(library)]
 
 use peer::gen::{Rng, World, LIMITS};
 use peer::gen_states::{after, damage, damage_at, reached, Damage};
@@ -11,20 +11,8 @@ use peer::shrink::shrink;
 use peer::slots::{differences, get, set, ROWS, SLOTS};
 use peer::sound::is_sound;
 
-extern "C" {
-    fn gritgarland_call(s: State, context: u32, service: u32, a: u32, b: u32, c: u32) -> Reply;
-    fn gritgarland_is_sound(s: State) -> bool;
-}
-
-fn library_call(state: &State, call: &Call) -> Reply {
-    // SAFETY: the layout is the library's, and any bytes are a State.
-    unsafe { gritgarland_call(*state, call.context, call.service, call.a, call.b, call.c) }
-}
-
-fn library_is_sound(state: &State) -> bool {
-    // SAFETY: as above.
-    unsafe { gritgarland_is_sound(*state) }
-}
+mod library;
+use library::{call as library_call, is_sound as library_is_sound, SHARE};
 
 /// How the library's reply differs from the peer's, if it does.
 fn unlike(ours: &Reply, theirs: &Reply) -> Option<String> {
@@ -58,7 +46,7 @@ fn text(calls: &[Call]) -> String {
     calls.iter().map(|call| format!("{call}\n")).collect()
 }
 
-const RUNS: u64 = 4_000;
+const RUNS: u64 = 4_000 / SHARE;
 const LENGTH: usize = 300;
 
 /// Runs that share their seeds' remainder, so that two tests use two processors.

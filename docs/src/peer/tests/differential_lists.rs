@@ -1,15 +1,13 @@
 //! The proved list runner against the peer's: the signed number and every byte of the buffer, before and after.
 //! What differs is cut down to the fewest lines that still show it, and printed.
-#![cfg(all(linked, lists))]
+#![cfg(library)]
 
 use peer::gen::{Rng, World};
 use peer::gen_files::{bad_end, bad_list, damage_bytes, exact};
 use peer::gen_lists::readable;
 use peer::shrink::shrink;
 
-extern "C" {
-    fn run_list(file: *const u8, n: usize, answer: *mut u8, m: usize) -> i64;
-}
+mod library;
 
 /// So many bytes before and after the buffer must stay as well.
 const GUARD: usize = 64;
@@ -26,9 +24,7 @@ fn size_differs(file: &[u8], size: usize) -> Option<String> {
     let mut theirs = ours.clone();
     let handed = file.to_vec();
     let our_result = peer::lists::run_list(file, &mut ours[GUARD..GUARD + size]);
-    let buffer = &mut theirs[GUARD..];
-    // SAFETY: both parts are as long as is said, and do not overlap.
-    let their_result = unsafe { run_list(handed.as_ptr(), handed.len(), buffer.as_mut_ptr(), size) };
+    let their_result = library::list(&handed, &mut theirs[GUARD..GUARD + size]);
     if our_result != their_result {
         return Some(format!("buffer of {size}: peer {our_result}, library {their_result}"));
     }

@@ -1,0 +1,106 @@
+/* Whole lists from C, as the editor calls them: the worked list, every refusal, and every byte of the buffer before and after. */
+#include "gritgarland.h"
+#include "libc.h"
+
+static int failures;
+static uint8_t file[GRITGARLAND_FILE_MOST + 1];
+static uint8_t before[GRITGARLAND_ANSWER_MOST + 16], after[GRITGARLAND_ANSWER_MOST + 16];
+
+static void expect(int holds, const char *what)
+{
+    if (!holds) {
+        printf("lists.c: %s\n", what);
+        failures++;
+    }
+}
+
+static size_t length(const char *text)
+{
+    size_t n = 0;
+    while (text[n] != 0)
+        n++;
+    return n;
+}
+
+/* Runs n bytes of `file` with room for so many; the number it must give and, if it is not negative, the text it must write. */
+static void run(size_t n, size_t room, int64_t number, const char *text, const char *what)
+{
+    for (size_t i = 0; i < sizeof before; i++)
+        before[i] = (uint8_t)(i * 37 + 11);
+    memcpy(after, before, sizeof after);
+    int64_t got = run_list(file, n, after, room);
+    size_t written = got > 0 ? (size_t)got : 0;
+    expect(got == number, what);
+    expect(written <= room, what);
+    expect(text == NULL || (written == length(text) && memcmp(after, text, written) == 0), what);
+    expect(memcmp(after + written, before + written, sizeof after - written) == 0, what);
+}
+
+static size_t put(const char *text)
+{
+    size_t n = length(text);
+    memcpy(file, text, n);
+    return n;
+}
+
+#define HEADER "ctx,service,a,b,c\n"
+
+static const char worked[] = HEADER "T,tn_sem_create,1,0,1\nT,tn_task_create,1,5,1\nT,tn_task_create,2,5,1\nT,tn_sem_acquire,1,2,\n"
+    "I,tn_tick_int_processing,,,\nI,tn_sem_isignal,1,,\nT,tn_sem_signal,1,,\nT,tn_sem_signal,1,,\nT,tn_task_exit,,,\nT,tn_sem_polling,1,,\n";
+static const char answer[] = "n,code,running\r\n1,0,0\r\n2,0,1\r\n3,0,1\r\n4,1,2\r\n5,0,2\r\n6,0,2\r\n7,0,2\r\n8,-1,2\r\n9,0,1\r\n10,0,1\r\n";
+
+static void unreadable(const char *line, const char *what)
+{
+    size_t n = put(HEADER "T,tn_task_exit,,,\n");
+    size_t m = length(line);
+    memcpy(file + n, line, m);
+    run(n + m, 4096, -13, NULL, what);
+}
+
+int main(void)
+{
+    size_t full = sizeof answer - 1;
+    size_t n = put(worked);
+    run(n, 4096, (int64_t)full, answer, "the worked list");
+    run(n, full, (int64_t)full, answer, "a buffer of just its length");
+    for (size_t room = 0; room < full; room++)
+        run(n, room, -2, NULL, "a shorter buffer");
+    run(n - 1, 4096, (int64_t)full, answer, "no end after the last line");
+
+    run(0, 4096, -11, NULL, "an empty file");
+    run(put("ctx,service,a,b,c"), 4096, 16, "n,code,running\r\n", "a header alone");
+    run(put("ctx,service,a,b,c\r\n"), 16, 16, "n,code,running\r\n", "a header with CRLF");
+    run(put("ctx,service,a,b,c\r\n"), 15, -2, NULL, "no room for the header");
+    run(put("ctx,service,a,b\n"), 4096, -11, NULL, "another header");
+    run(put(HEADER "\n"), 4096, -12, NULL, "an empty line");
+    run(put(HEADER "T,tn_task_exit,,,\r\nT,tn_task_exit,,,\n"), 4096, 32, "n,code,running\r\n1,-2,0\r\n2,-2,0\r\n", "line ends may mix");
+
+    unreadable("T,tn_task_exit,,,\r", "a CR at the end of the file");
+    unreadable("T,tn_task_exit,,,\r\r\n", "two CRs");
+    unreadable("t,tn_task_exit,,,\n", "a small letter");
+    unreadable("T,tn_task_quit,,,\n", "a service that is none");
+    unreadable("T,tn_task_exit,0,,\n", "an unused field that is filled");
+    unreadable("T,tn_task_sleep,,,\n", "a used field that is blank");
+    unreadable("T,tn_task_sleep,01,,\n", "a needless leading zero");
+    unreadable("T,tn_task_sleep,4294967296,,\n", "a number that is too large");
+    unreadable("T,tn_task_sleep,-1,,\n", "a sign");
+    unreadable("T,tn_task_sleep,1,\n", "four fields");
+    unreadable("T,tn_task_sleep,1,,,\n", "six fields");
+    unreadable("T,tn_task_sleep,1 ,,\n", "a space");
+
+    /* the longest file: the last line is cut to fill it */
+    n = put(HEADER);
+    while (n + 18 <= GRITGARLAND_FILE_MOST) {
+        memcpy(file + n, "T,tn_task_exit,,,\n", 18);
+        n += 18;
+    }
+    run(n, GRITGARLAND_ANSWER_MOST, 38938, NULL, "as many calls as fit");
+    memset(file + n, 'x', GRITGARLAND_FILE_MOST + 1 - n);
+    run(GRITGARLAND_FILE_MOST, 4096, -(10 + 3641), NULL, "65,536 bytes are read");
+    run(GRITGARLAND_FILE_MOST + 1, 4096, -1, NULL, "65,537 bytes are too long");
+    run(GRITGARLAND_FILE_MOST + 1, 0, -1, NULL, "too long comes first");
+
+    if (failures == 0)
+        printf("lists.c: all as it must be\n");
+    return failures != 0;
+}
