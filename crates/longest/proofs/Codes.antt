@@ -1,0 +1,130 @@
+-- The code that a call answers in a sound state has at most two bytes as text, one if the call is not refused; the running task too has at most two.
+-- It rests on the plans of model, and on who runs in a sound state.
+use mathlib.Core.Path.{_≡_}
+use mathlib.Core.Bool.{Bool, true, false, cond, not, _&&_}
+use Prim.Native.Nat.{ℕ, suc, _≤_, _<_}
+use native.Mathlib.Omega.{arith}
+use native.Mathlib.Decide.{decLe}
+use lib.Dec.{T, eqb, leb, ltb, ltb→lt}
+use lib.IntN.{ℤ, pos, negsuc}
+use lib.ListN.{length}
+use Rattle.text.specs.Decimal.{decimal}
+use Rattle.text.proofs.Digits.{width-one}
+use Rattle.model.specs.declared.Task.{Task}
+use Rattle.model.specs.declared.State.{State}
+use Rattle.model.specs.declared.Semaphore.{Semaphore}
+use Rattle.model.specs.declared.Plan.{Plan}
+use Rattle.model.specs.declared.Effect.{Effect}
+use Rattle.model.specs.declared.Code.{Code}
+use Rattle.model.specs.declared.Code.the-variants.{WContext, WrongParam, NoExs}
+use Rattle.model.specs.declared.Context.{Context}
+use Rattle.model.specs.declared.Call.{Call}
+use Rattle.model.specs.declared.Call.the-variants.{TaskCreate, TaskDelete, TaskActivate, TaskIactivate, TaskExit, TaskTerminate, TaskSuspend, TaskResume, TaskSleep, TaskWakeup, TaskIwakeup, TaskReleaseWait, TaskIreleaseWait, TaskChangePriority}
+use Rattle.model.specs.declared.Call.the-variants.{SysTsliceTicks, TickIntProcessing, SemCreate, SemDelete, SemSignal, SemIsignal, SemAcquire, SemPolling, SemIpolling}
+use Rattle.model.specs.Task.{isCreated, isDormant, isSuspended, isWaiting, isAsleep}
+use Rattle.model.specs.State.{task, semaphore, running}
+use Rattle.model.specs.Code.{number}
+use Rattle.model.specs.Plan.{isTask, isPriority, isSemaphore, isMaximum, isTimeout, isSlice, isMade, answers, need, checked}
+use Rattle.model.specs.Service.{create, delete, activate, exit, terminate, suspend, resume, sleep, wakeup, releaseWait, wanted, changePriority, tsliceTicks, tick, semCreate, semDelete, signal, acquire, polling}
+use Rattle.model.specs.Call.{inT, inI, plan, planned, step}
+use Rattle.model.specs.Sound.{Sound}
+use Rattle.kept.proofs.Kept.{sound-stays-sound}
+use Rattle.kept.proofs.Running.{runner}
+use Rattle.runner.specs.Rows.{signed}
+use Rattle.runner.proofs.Widths.{width-most}
+
+-- ---- codes
+abbrev oneDigit : ℤ → Bool
+oneDigit (pos n) = ltb n 10
+oneDigit (negsuc n) = ltb n 9
+
+signed-most : (z : ℤ) → T (oneDigit z) → length (signed z) ≤ 2
+signed-most (pos n) h = omega (arith, ltb→lt n 10 h, width-one n (omega (arith, ltb→lt n 10 h)))
+signed-most (negsuc n) h = omega (arith, width-one (suc n) (omega (arith, ltb→lt n 9 h)))
+
+data Brief : Plan → Type 0 where
+  brief : (c : Code) (e : Effect) → T (oneDigit (number c)) → Brief (answers c e)
+
+needs : (b : Bool) (c : Code) (p : Plan) → T (oneDigit (number c)) → Brief p → Brief (need b c p)
+needs true c p h k = k
+needs false c p h k = brief c _ h
+
+picks : (b : Bool) (p q : Plan) → Brief p → Brief q → Brief (cond b p q)
+picks true p q h k = h
+picks false p q h k = k
+
+checks : (right there mine : Bool) (p : Plan) → Brief p → Brief (checked right there mine p)
+checks right there mine p k = needs right WrongParam _ tt (needs there NoExs _ tt (needs mine WContext p tt k))
+
+-- the services that both contexts have
+brief-activate : (mine : Bool) (t : ℕ) (k : Task) → Brief (activate mine t k)
+unfolding activate
+brief-activate mine t k = checks (isTask t) (isCreated k) mine _ (picks (isDormant k) _ _ (brief _ _ tt) (needs (eqb (k .activations) 0) _ _ tt (brief _ _ tt)))
+
+brief-wakeup : (mine : Bool) (t : ℕ) (k : Task) → Brief (wakeup mine t k)
+unfolding wakeup
+brief-wakeup mine t k =
+    checks (isTask t) (isCreated k) mine _ (needs (not (isDormant k)) _ _ tt (picks (isAsleep k) _ _ (brief _ _ tt) (needs (eqb (k .wakeups) 0) _ _ tt (brief _ _ tt))))
+
+brief-releaseWait : (mine : Bool) (t : ℕ) (k : Task) → Brief (releaseWait mine t k)
+unfolding releaseWait
+brief-releaseWait mine t k = checks (isTask t) (isCreated k) mine _ (needs (isWaiting k) _ _ tt (brief _ _ tt))
+
+brief-signal : (mine : Bool) (m : ℕ) (k : Task) (x : Semaphore) → Brief (signal mine m k x)
+unfolding signal
+brief-signal mine m k x = checks (isSemaphore m) (isMade x) mine _ (picks (eqb (x .first) 0) _ _ (needs (ltb (x .count) (x .maximum)) _ _ tt (brief _ _ tt)) (brief _ _ tt))
+
+brief-polling : (mine : Bool) (m : ℕ) (x : Semaphore) → Brief (polling mine m x)
+unfolding polling
+brief-polling mine m x = checks (isSemaphore m) (isMade x) mine _ (needs (not (eqb (x .count) 0)) _ _ tt (brief _ _ tt))
+
+plan-brief : (c : Context) (a : Call) (run : ℕ) (k : Task) (x : Semaphore) → Brief (plan c a run k x)
+unfolding plan create delete exit terminate suspend resume sleep changePriority tsliceTicks tick semCreate semDelete acquire
+plan-brief c (TaskCreate t p o) run k x = checks (isTask t && (isPriority p && (leb o 1 && not (isCreated k)))) true (inT c) _ (brief _ _ tt)
+plan-brief c (TaskDelete t) run k x = checks (isTask t) (isCreated k) (inT c) _ (needs (isDormant k) _ _ tt (brief _ _ tt))
+plan-brief c (TaskActivate t) run k x = brief-activate (inT c) t k
+plan-brief c (TaskIactivate t) run k x = brief-activate (inI c) t k
+plan-brief c TaskExit run k x = checks true true (inT c) _ (needs (not (eqb run 0)) _ _ tt (brief _ _ tt))
+plan-brief c (TaskTerminate t) run k x =
+    checks (isTask t) (isCreated k) (inT c) _ (needs (not (eqb t run)) _ _ tt (needs (not (isDormant k)) _ _ tt (brief _ _ tt)))
+plan-brief c (TaskSuspend t) run k x =
+    checks (isTask t) (isCreated k) (inT c) _ (needs (not (isDormant k)) _ _ tt (needs (not (isSuspended k)) _ _ tt (brief _ _ tt)))
+plan-brief c (TaskResume t) run k x = checks (isTask t) (isCreated k) (inT c) _ (needs (isSuspended k) _ _ tt (brief _ _ tt))
+plan-brief c (TaskSleep d) run k x =
+    checks (isTimeout d) true (inT c) _ (needs (not (eqb run 0)) _ _ tt (picks (eqb (k .wakeups) 0) _ _ (brief _ _ tt) (brief _ _ tt)))
+plan-brief c (TaskWakeup t) run k x = brief-wakeup (inT c) t k
+plan-brief c (TaskIwakeup t) run k x = brief-wakeup (inI c) t k
+plan-brief c (TaskReleaseWait t) run k x = brief-releaseWait (inT c) t k
+plan-brief c (TaskIreleaseWait t) run k x = brief-releaseWait (inI c) t k
+plan-brief c (TaskChangePriority t p) run k x =
+    checks (isTask t && leb p 30) (isCreated k) (inT c) _ (needs (not (isDormant k)) _ _ tt (picks (eqb (wanted p k) (k .priority)) _ _ (brief _ _ tt) (brief _ _ tt)))
+plan-brief c (SysTsliceTicks l v) run k x = checks (isPriority l && isSlice v) true (inT c) _ (brief _ _ tt)
+plan-brief c TickIntProcessing run k x = checks true true (inI c) _ (brief _ _ tt)
+plan-brief c (SemCreate m n v) run k x = checks (isSemaphore m && (isMaximum v && (leb n v && not (isMade x)))) true (inT c) _ (brief _ _ tt)
+plan-brief c (SemDelete m) run k x = checks (isSemaphore m) (isMade x) (inT c) _ (brief _ _ tt)
+plan-brief c (SemSignal m) run k x = brief-signal (inT c) m k x
+plan-brief c (SemIsignal m) run k x = brief-signal (inI c) m k x
+plan-brief c (SemAcquire m d) run k x =
+    checks (isSemaphore m && isTimeout d) (isMade x) (inT c) _ (needs (not (eqb run 0)) _ _ tt (picks (eqb (x .count) 0) _ _ (brief _ _ tt) (brief _ _ tt)))
+plan-brief c (SemPolling m) run k x = brief-polling (inT c) m x
+plan-brief c (SemIpolling m) run k x = brief-polling (inI c) m x
+
+code-most : (p : Plan) → Brief p → length (signed (number (p .code))) ≤ 2
+code-most _ (brief c e h) = signed-most (number c) h
+
+-- ---- who runs
+runs-most : (s : State) → Sound s → length (decimal (running s)) ≤ 2
+runs-most s k = width-most 1 (running s) (go (decLe 1 (running s)))
+  where
+    go : Dec (1 ≤ running s) → running s < 100
+    go (yes h) = omega (arith, runner s k h .top)
+    go (no h) = omega arith
+
+-- ---- an answer of a sound state
+pub step-code : (s : State) (x : Context) (c : Call) → length (signed (number (step s x c .code))) ≤ 2
+unfolding step planned
+step-code s x c = code-most (planned s x c) (plan-brief x c _ _ _)
+
+pub step-runs : (s : State) (x : Context) (c : Call) → Sound s → length (decimal (step s x c .running)) ≤ 2
+unfolding step
+step-runs s x c k = runs-most (step s x c .state) (sound-stays-sound s x c k)

@@ -1,0 +1,128 @@
+-- The theorems of specs/Statement: a file holds few calls, so that its answer is short, and no buffer of that length is too short for it.
+-- They rest on Ended for the lines, on Codes for the rows, and on the laws of kept and tested: every state on the way is sound.
+use mathlib.Core.Path.{_≡_, refl, sym, ap, _∙_}
+use mathlib.Core.Bool.{Bool, true, false, cond}
+use mathlib.Core.List.{List, [], _∷_, _++_}
+use Prim.Native.Nat.{ℕ, zero, suc, _+_, _-_, _*_, _≤_, _<_}
+use native.Mathlib.Omega.{arith}
+use native.Mathlib.Decide.{decLt}
+use lib.Dec.{eqb, ltb}
+use lib.ListN.{length, length-append}
+use borrow.Author.Tests.{ltb-true, ltb-false}
+use Rattle.text.specs.Bytes.{bytes}
+use Rattle.text.specs.Decimal.{decimal, decimalIn}
+use Rattle.text.proofs.Reading.{cond-by}
+use Rattle.model.specs.declared.State.{State}
+use Rattle.model.specs.declared.Answer.{Answer}
+use Rattle.model.specs.declared.Context.{Context}
+use Rattle.model.specs.declared.Call.{Call}
+use Rattle.model.specs.State.{fresh}
+use Rattle.model.specs.Code.{number}
+use Rattle.model.specs.Sound.{Sound}
+use Rattle.model.specs.Call as Calls
+use Rattle.kept.proofs.Kept.{fresh-is-sound, sound-stays-sound}
+use Rattle.tested.proofs.Same.{sound-exactly}
+use Rattle.lines.specs.declared.line.Line.{Line}
+use Rattle.lines.specs.declared.line.Line.the-variants.{Reads, Unreadable as NoLine}
+use Rattle.lines.specs.declared.line.Header.{Header}
+use Rattle.lines.specs.declared.line.Header.the-variants.{Ends, NoHeader}
+use Rattle.lines.specs.Lines.{lineOf, headerOf}
+use Rattle.lines.proofs.Within.{LineIn, line-in, HeaderIn, header-in}
+use Rattle.lines.proofs.Long.{LineHas, line-has, HeaderHas, header-has}
+use Rattle.runner.specs.declared.Ran.{Ran}
+use Rattle.runner.specs.declared.Ran.the-variants.{Wrote, TooLong, Unreadable, Short}
+use Rattle.runner.specs.Script.{Script, done, fault, next, lineThen, scriptIn, headerThen, scriptOf, faultOf}
+use Rattle.runner.specs.Rows.{Row, rowsBy, rowsOf, signed, rowText, rowsText, textOf}
+use Rattle.runner.specs.Outcome.{judged, ranOf}
+use Rattle.longest.specs.Statement.{FewCalls, ShortAnswer, NeverShort}
+use Rattle.longest.proofs.Ended.{LineEnds, line-ends, HeaderEnds, header-ends}
+use Rattle.longest.proofs.Codes.{step-code, step-runs}
+
+-- ---- few calls
+-- a line takes 18 bytes, the last one 17
+in-few : (by : State → Context → Call → Answer) (s : List ℕ) (k l : ℕ) (from : State) → 18 * length (rowsBy by from (scriptIn k s l)) ≤ length s - k + 1
+unfolding scriptIn rowsBy
+in-few by [] k l from = omega arith
+in-few by (b ∷ s) (suc k) l from = omega (arith, in-few by s k l from)
+in-few by (b ∷ s) zero l from = omega (arith, go (lineOf (b ∷ s)) (line-has (b ∷ s)) (line-in (b ∷ s)) (line-ends (b ∷ s)) (λ n to. in-few by s n (l + 1) to))
+  where
+    go : (t : Line) → LineHas t → LineIn t (length (b ∷ s)) → LineEnds t (length (b ∷ s))
+        → ((n : ℕ) (to : State) → 18 * length (rowsBy by to (scriptIn n s (l + 1))) ≤ length s - n + 1)
+        → 18 * length (rowsBy by from (lineThen t l (λ x c n. next x c (scriptIn (n - 1) s (l + 1))))) ≤ suc (length s) + 1
+    go (Reads x c n) has inside ends ih = more (decLt n (suc (length s)))
+      where
+        more : Dec (n < suc (length s)) → 18 * suc (length (rowsBy by (by from x c .state) (scriptIn (n - 1) s (l + 1)))) ≤ suc (length s) + 1
+        more (yes h) = omega (arith, ends h, ih (n - 1) (by from x c .state))
+        more (no h) = omega (arith, ih (n - 1) (by from x c .state))
+    go NoLine has inside ends ih = omega arith
+
+pub few-calls : FewCalls
+unfolding scriptOf rowsBy
+few-calls file fits = go (headerOf file) (header-has file) (header-in file) (header-ends file)
+  where
+    go : (t : Header) → HeaderHas t → HeaderIn t (length file) → HeaderEnds t (length file) → length (rowsOf (headerThen t (λ h. scriptIn h file 2))) ≤ 3639
+    go (Ends h) has inside ends = more (decLt h (length file))
+      where
+        more : Dec (h < length file) → length (rowsOf (scriptIn h file 2)) ≤ 3639
+        more (yes p) = omega (arith, ends p, in-few Calls.call file h 2 fresh)
+        more (no p) = omega (arith, in-few Calls.call file h 2 fresh)
+    go NoHeader has inside ends = omega arith
+
+-- ---- a short answer
+-- the digits of the m numbers from n on
+unfoldable digitsFrom : ℕ → ℕ → ℕ
+digitsFrom n zero = 0
+digitsFrom n (suc m) = length (decimal n) + digitsFrom (n + 1) m
+
+digits-grow : (m most n : ℕ) → m ≤ most → digitsFrom n m ≤ digitsFrom n most
+unfolding digitsFrom
+digits-grow zero most n h = omega arith
+digits-grow (suc m) zero n h = absurd (omega arith)
+digits-grow (suc m) (suc most) n h = omega (arith, digits-grow m most (n + 1) (omega arith))
+
+digits-all : digitsFrom 1 3639 ≡ 13449
+unfolding digitsFrom decimal decimalIn
+digits-all = refl
+
+row-width : (n : ℕ) (r : Row) → length (rowText n r) ≡ length (decimal n) + length (signed (number (r .code))) + length (decimal (r .running)) + 4
+unfolding rowText
+row-width n r = simp length-append (omega arith)
+
+rows-most : (p : Script) (s : State) (n : ℕ) → Sound s → length (rowsText n (rowsBy Calls.call s p)) ≤ digitsFrom n (length (rowsBy Calls.call s p)) + 8 * length (rowsBy Calls.call s p)
+unfolding rowsText rowsBy digitsFrom Calls.call
+rows-most done s n k = omega arith
+rows-most (fault l) s n k = omega arith
+rows-most (next x c p) s n k =
+    let r : Row = record { code = Calls.step s x c .code; running = Calls.step s x c .running } in
+    let more = rowsBy Calls.call (Calls.step s x c .state) p in
+    rw (sound-exactly s .1 k)
+    (omega (arith, length-append (rowText n r) (rowsText (n + 1) more), row-width n r, step-code s x c, step-runs s x c k, rows-most p (Calls.step s x c .state) (n + 1) (sound-stays-sound s x c k)))
+
+pub short-answer : ShortAnswer
+unfolding textOf
+short-answer file fits =
+    let rows = rowsOf (scriptOf file) in
+    let few : length rows ≤ 3639 = few-calls file fits in
+    omega (arith, length-append (bytes "n,code,running\r\n") (rowsText 1 rows), rows-most (scriptOf file) fresh 1 fresh-is-sound, digits-all, digits-grow (length rows) 3639 1 few)
+
+-- ---- never short
+abbrev Enough : Ran → Type 0
+Enough r = r ≡ Short → ⊥
+
+pub never-short : NeverShort
+unfolding ranOf judged
+never-short file room h = go (ltb 65536 (length file)) refl
+  where
+    text : ℕ
+    text = length (textOf (scriptOf file))
+
+    written : length file ≤ 65536 → (b : Bool) → ltb room text ≡ b → Enough (cond b Short (Wrote text))
+    written fits true e q = omega (arith, ltb-true room text e, short-answer file fits)
+    written fits false e q = let z : _≡_ {A = ℕ} 0 1 = cc in omega arith
+
+    go : (b : Bool) → ltb 65536 (length file) ≡ b → Enough (cond b TooLong (judged (scriptOf file) room))
+    go true e = λ q. let z : _≡_ {A = ℕ} 0 1 = cc in omega arith
+    go false e =
+        cond-by Enough (eqb (faultOf (scriptOf file)) 0) (cond (ltb room text) Short (Wrote text)) (Unreadable (faultOf (scriptOf file)))
+        (λ _. written (ltb-false 65536 (length file) e) (ltb room text) refl)
+        (λ q. let z : _≡_ {A = ℕ} 0 1 = cc in omega arith)
