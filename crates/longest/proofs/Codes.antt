@@ -1,8 +1,8 @@
--- The code that a call answers in a sound state has at most two bytes as text, one if the call is not refused; the running task too has at most two.
--- It rests on the plans of model, and on who runs in a sound state.
-use mathlib.Core.Path.{_≡_}
-use mathlib.Core.Bool.{Bool, true, false, cond, not, _&&_}
-use Prim.Native.Nat.{ℕ, suc, _≤_, _<_}
+-- The code and the running task that a call answers in a sound state have at most two bytes each as text, and three in all while nobody runs.
+-- It rests on the plans of model, on who runs in a sound state, and on refusals changing nothing.
+use mathlib.Core.Path.{_≡_, refl, sym, ap, _∙_}
+use mathlib.Core.Bool.{Bool, true, false, cond, not, _&&_, false≢true}
+use Prim.Native.Nat.{ℕ, suc, _+_, _≤_, _<_}
 use native.Mathlib.Omega.{arith}
 use native.Mathlib.Decide.{decLe}
 use lib.Dec.{T, eqb, leb, ltb, ltb→lt}
@@ -23,12 +23,12 @@ use Rattle.model.specs.declared.Call.the-variants.{TaskCreate, TaskDelete, Task
 use Rattle.model.specs.declared.Call.the-variants.{SysTsliceTicks, TickIntProcessing, SemCreate, SemDelete, SemSignal, SemIsignal, SemAcquire, SemPolling, SemIpolling}
 use Rattle.model.specs.Task.{isCreated, isDormant, isSuspended, isWaiting, isAsleep}
 use Rattle.model.specs.State.{task, semaphore, running}
-use Rattle.model.specs.Code.{number}
+use Rattle.model.specs.Code.{number, isNegative, isRefusal}
 use Rattle.model.specs.Plan.{isTask, isPriority, isSemaphore, isMaximum, isTimeout, isSlice, isMade, answers, need, checked}
 use Rattle.model.specs.Service.{create, delete, activate, exit, terminate, suspend, resume, sleep, wakeup, releaseWait, wanted, changePriority, tsliceTicks, tick, semCreate, semDelete, signal, acquire, polling}
 use Rattle.model.specs.Call.{inT, inI, plan, planned, step}
 use Rattle.model.specs.Sound.{Sound}
-use Rattle.kept.proofs.Kept.{sound-stays-sound}
+use Rattle.kept.proofs.Kept.{sound-stays-sound, refused-is-unchanged}
 use Rattle.kept.proofs.Running.{runner}
 use Rattle.runner.specs.Rows.{signed}
 use Rattle.runner.proofs.Widths.{width-most}
@@ -39,8 +39,13 @@ oneDigit (pos n) = ltb n 10
 oneDigit (negsuc n) = ltb n 9
 
 signed-most : (z : ℤ) → T (oneDigit z) → length (signed z) ≤ 2
-signed-most (pos n) h = omega (arith, ltb→lt n 10 h, width-one n (omega (arith, ltb→lt n 10 h)))
+signed-most (pos n) h = omega (arith, width-one n (omega (arith, ltb→lt n 10 h)))
 signed-most (negsuc n) h = omega (arith, width-one (suc n) (omega (arith, ltb→lt n 9 h)))
+
+-- without a sign
+signed-one : (z : ℤ) → T (oneDigit z) → isNegative z ≡ false → length (signed z) ≤ 1
+signed-one (pos n) h e = omega (arith, width-one n (omega (arith, ltb→lt n 10 h)))
+signed-one (negsuc n) h e = absurd (false≢true (sym e))
 
 data Brief : Plan → Type 0 where
   brief : (c : Code) (e : Effect) → T (oneDigit (number c)) → Brief (answers c e)
@@ -109,9 +114,6 @@ plan-brief c (SemAcquire m d) run k x =
 plan-brief c (SemPolling m) run k x = brief-polling (inT c) m x
 plan-brief c (SemIpolling m) run k x = brief-polling (inI c) m x
 
-code-most : (p : Plan) → Brief p → length (signed (number (p .code))) ≤ 2
-code-most _ (brief c e h) = signed-most (number c) h
-
 -- ---- who runs
 runs-most : (s : State) → Sound s → length (decimal (running s)) ≤ 2
 runs-most s k = width-most 1 (running s) (go (decLe 1 (running s)))
@@ -120,11 +122,30 @@ runs-most s k = width-most 1 (running s) (go (decLe 1 (running s)))
     go (yes h) = omega (arith, runner s k h .top)
     go (no h) = omega arith
 
--- ---- an answer of a sound state
-pub step-code : (s : State) (x : Context) (c : Call) → length (signed (number (step s x c .code))) ≤ 2
-unfolding step planned
-step-code s x c = code-most (planned s x c) (plan-brief x c _ _ _)
+-- ---- an answer
+digit : (p : Plan) → Brief p → T (oneDigit (number (p .code)))
+digit _ (brief c e h) = h
 
-pub step-runs : (s : State) (x : Context) (c : Call) → Sound s → length (decimal (step s x c .running)) ≤ 2
-unfolding step
-step-runs s x c k = runs-most (step s x c .state) (sound-stays-sound s x c k)
+module _ (s : State) (x : Context) (c : Call) where
+  step-digit : T (oneDigit (number (step s x c .code)))
+  unfolding step planned
+  step-digit = digit (planned s x c) (plan-brief x c _ _ _)
+
+  pub step-code : length (signed (number (step s x c .code))) ≤ 2
+  step-code = signed-most (number (step s x c .code)) step-digit
+
+  pub step-runs : Sound s → length (decimal (step s x c .running)) ≤ 2
+  unfolding step
+  step-runs k = runs-most (step s x c .state) (sound-stays-sound s x c k)
+
+  step-still : step s x c .state ≡ s → step s x c .running ≡ running s
+  unfolding step
+  step-still e = ap running e
+
+  -- while nobody runs, a call that is refused leaves it so, and any other has a code of one byte
+  pub step-idle : Sound s → running s ≡ 0 → length (signed (number (step s x c .code))) + length (decimal (step s x c .running)) ≤ 3
+  step-idle k idle = go (isRefusal (step s x c .code)) refl
+    where
+      go : (b : Bool) → isRefusal (step s x c .code) ≡ b → length (signed (number (step s x c .code))) + length (decimal (step s x c .running)) ≤ 3
+      go true e = omega (arith, step-code, width-one (step s x c .running) (omega (arith, step-still (refused-is-unchanged s x c e))))
+      go false e = omega (arith, signed-one (number (step s x c .code)) step-digit e, step-runs k)

@@ -1,3 +1,4 @@
 pub mod Ended
 pub mod Codes
+pub mod Rows
 pub mod Longest

@@ -16,7 +16,8 @@ use Rattle.model.specs.declared.State.{State}
 use Rattle.model.specs.declared.Answer.{Answer}
 use Rattle.model.specs.declared.Context.{Context}
 use Rattle.model.specs.declared.Call.{Call}
-use Rattle.model.specs.State.{fresh}
+use Rattle.model.specs.Row.{bestFrom}
+use Rattle.model.specs.State.{fresh, running}
 use Rattle.model.specs.Code.{number}
 use Rattle.model.specs.Sound.{Sound}
 use Rattle.model.specs.Call as Calls
@@ -36,7 +37,7 @@ use Rattle.runner.specs.Rows.{Row, rowsBy, rowsOf, signed, rowText, rowsText, t
 use Rattle.runner.specs.Outcome.{judged, ranOf}
 use Rattle.longest.specs.Statement.{FewCalls, ShortAnswer, NeverShort}
 use Rattle.longest.proofs.Ended.{LineEnds, line-ends, HeaderEnds, header-ends}
-use Rattle.longest.proofs.Codes.{step-code, step-runs}
+use Rattle.longest.proofs.Rows.{digits-grow, digits-all, all-most}
 
 -- ---- few calls
 -- a line takes 18 bytes, the last one 17
@@ -69,41 +70,12 @@ few-calls file fits = go (headerOf file) (header-has file) (header-in file) (hea
     go NoHeader has inside ends = omega arith
 
 -- ---- a short answer
--- the digits of the m numbers from n on
-unfoldable digitsFrom : ℕ → ℕ → ℕ
-digitsFrom n zero = 0
-digitsFrom n (suc m) = length (decimal n) + digitsFrom (n + 1) m
-
-digits-grow : (m most n : ℕ) → m ≤ most → digitsFrom n m ≤ digitsFrom n most
-unfolding digitsFrom
-digits-grow zero most n h = omega arith
-digits-grow (suc m) zero n h = absurd (omega arith)
-digits-grow (suc m) (suc most) n h = omega (arith, digits-grow m most (n + 1) (omega arith))
-
-digits-all : digitsFrom 1 3639 ≡ 13449
-unfolding digitsFrom decimal decimalIn
-digits-all = refl
-
-row-width : (n : ℕ) (r : Row) → length (rowText n r) ≡ length (decimal n) + length (signed (number (r .code))) + length (decimal (r .running)) + 4
-unfolding rowText
-row-width n r = simp length-append (omega arith)
-
-rows-most : (p : Script) (s : State) (n : ℕ) → Sound s → length (rowsText n (rowsBy Calls.call s p)) ≤ digitsFrom n (length (rowsBy Calls.call s p)) + 8 * length (rowsBy Calls.call s p)
-unfolding rowsText rowsBy digitsFrom Calls.call
-rows-most done s n k = omega arith
-rows-most (fault l) s n k = omega arith
-rows-most (next x c p) s n k =
-    let r : Row = record { code = Calls.step s x c .code; running = Calls.step s x c .running } in
-    let more = rowsBy Calls.call (Calls.step s x c .state) p in
-    rw (sound-exactly s .1 k)
-    (omega (arith, length-append (rowText n r) (rowsText (n + 1) more), row-width n r, step-code s x c, step-runs s x c k, rows-most p (Calls.step s x c .state) (n + 1) (sound-stays-sound s x c k)))
-
 pub short-answer : ShortAnswer
 unfolding textOf
 short-answer file fits =
     let rows = rowsOf (scriptOf file) in
     let few : length rows ≤ 3639 = few-calls file fits in
-    omega (arith, length-append (bytes "n,code,running\r\n") (rowsText 1 rows), rows-most (scriptOf file) fresh 1 fresh-is-sound, digits-all, digits-grow (length rows) 3639 1 few)
+    omega (arith, length-append (bytes "n,code,running\r\n") (rowsText 1 rows), all-most (scriptOf file), digits-all, digits-grow (length rows) 3639 1 few)
 
 -- ---- never short
 abbrev Enough : Ran → Type 0

@@ -13,8 +13,8 @@ abbrev pub FewCalls : Type 0
 FewCalls = (file : List ℕ) → length file ≤ 65536 → length (rowsOf (scriptOf file)) ≤ 3639
 
 abbrev pub ShortAnswer : Type 0
-ShortAnswer = (file : List ℕ) → length file ≤ 65536 → length (textOf (scriptOf file)) ≤ 42577
+ShortAnswer = (file : List ℕ) → length file ≤ 65536 → length (textOf (scriptOf file)) ≤ 42576
 
 -- a buffer of that many bytes is never too short, so one of 65,536 is not
 abbrev pub NeverShort : Type 0
-NeverShort = (file : List ℕ) (room : ℕ) → 42577 ≤ room → ranOf file room ≡ Short → ⊥
+NeverShort = (file : List ℕ) (room : ℕ) → 42576 ≤ room → ranOf file room ≡ Short → ⊥
