@@ -1,6 +1,6 @@
 -- The code and the running task that a call answers in a sound state have at most two bytes each as text, and three in all while nobody runs.
 -- It rests on the plans of model, on who runs in a sound state, and on refusals changing nothing.
-use mathlib.Core.Path.{_≡_, refl, sym, ap, _∙_}
+use mathlib.Core.Path.{_≡_, refl, sym, ap}
 use mathlib.Core.Bool.{Bool, true, false, cond, not, _&&_, false≢true}
 use Prim.Native.Nat.{ℕ, suc, _+_, _≤_, _<_}
 use native.Mathlib.Omega.{arith}
@@ -22,7 +22,7 @@ use Rattle.model.specs.declared.Call.{Call}
 use Rattle.model.specs.declared.Call.the-variants.{TaskCreate, TaskDelete, TaskActivate, TaskIactivate, TaskExit, TaskTerminate, TaskSuspend, TaskResume, TaskSleep, TaskWakeup, TaskIwakeup, TaskReleaseWait, TaskIreleaseWait, TaskChangePriority}
 use Rattle.model.specs.declared.Call.the-variants.{SysTsliceTicks, TickIntProcessing, SemCreate, SemDelete, SemSignal, SemIsignal, SemAcquire, SemPolling, SemIpolling}
 use Rattle.model.specs.Task.{isCreated, isDormant, isSuspended, isWaiting, isAsleep}
-use Rattle.model.specs.State.{task, semaphore, running}
+use Rattle.model.specs.State.{running}
 use Rattle.model.specs.Code.{number, isNegative, isRefusal}
 use Rattle.model.specs.Plan.{isTask, isPriority, isSemaphore, isMaximum, isTimeout, isSlice, isMade, answers, need, checked}
 use Rattle.model.specs.Service.{create, delete, activate, exit, terminate, suspend, resume, sleep, wakeup, releaseWait, wanted, changePriority, tsliceTicks, tick, semCreate, semDelete, signal, acquire, polling}

@@ -1,7 +1,7 @@
 -- A line or header that more bytes follow has a line end, so it has at least 18 bytes.
 -- It rests on the table of services and on the definitions of lines.
 use Prim.Native.Nat.{ℕ, _+_, _<_, _≤_}
-use mathlib.Core.Bool.{Bool, true, false, cond}
+use mathlib.Core.Bool.{Bool, cond}
 use mathlib.Core.List.{List, [], _∷_}
 use native.Mathlib.Omega.{arith}
 use lib.Dec.{T, ltb, leb, eqb, leb→le}

@@ -2,3 +2,4 @@ pub mod Ended
 pub mod Codes
 pub mod Rows
 pub mod Longest
+pub mod Reached

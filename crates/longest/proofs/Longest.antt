@@ -1,8 +1,8 @@
 -- The theorems of specs/Statement: a file holds few calls, so that its answer is short, and no buffer of that length is too short for it.
--- They rest on Ended for the lines, on Codes for the rows, and on the laws of kept and tested: every state on the way is sound.
-use mathlib.Core.Path.{_≡_, refl, sym, ap, _∙_}
+-- They rest on Ended and the laws of lines for the lines, and on Rows for the text.
+use mathlib.Core.Path.{_≡_, refl}
 use mathlib.Core.Bool.{Bool, true, false, cond}
-use mathlib.Core.List.{List, [], _∷_, _++_}
+use mathlib.Core.List.{List, [], _∷_}
 use Prim.Native.Nat.{ℕ, zero, suc, _+_, _-_, _*_, _≤_, _<_}
 use native.Mathlib.Omega.{arith}
 use native.Mathlib.Decide.{decLt}
@@ -10,19 +10,13 @@ use lib.Dec.{eqb, ltb}
 use lib.ListN.{length, length-append}
 use borrow.Author.Tests.{ltb-true, ltb-false}
 use Rattle.text.specs.Bytes.{bytes}
-use Rattle.text.specs.Decimal.{decimal, decimalIn}
 use Rattle.text.proofs.Reading.{cond-by}
 use Rattle.model.specs.declared.State.{State}
 use Rattle.model.specs.declared.Answer.{Answer}
 use Rattle.model.specs.declared.Context.{Context}
 use Rattle.model.specs.declared.Call.{Call}
-use Rattle.model.specs.Row.{bestFrom}
-use Rattle.model.specs.State.{fresh, running}
-use Rattle.model.specs.Code.{number}
-use Rattle.model.specs.Sound.{Sound}
+use Rattle.model.specs.State.{fresh}
 use Rattle.model.specs.Call as Calls
-use Rattle.kept.proofs.Kept.{fresh-is-sound, sound-stays-sound}
-use Rattle.tested.proofs.Same.{sound-exactly}
 use Rattle.lines.specs.declared.line.Line.{Line}
 use Rattle.lines.specs.declared.line.Line.the-variants.{Reads, Unreadable as NoLine}
 use Rattle.lines.specs.declared.line.Header.{Header}
@@ -32,10 +26,10 @@ use Rattle.lines.proofs.Within.{LineIn, line-in, HeaderIn, header-in}
 use Rattle.lines.proofs.Long.{LineHas, line-has, HeaderHas, header-has}
 use Rattle.runner.specs.declared.Ran.{Ran}
 use Rattle.runner.specs.declared.Ran.the-variants.{Wrote, TooLong, Unreadable, Short}
-use Rattle.runner.specs.Script.{Script, done, fault, next, lineThen, scriptIn, headerThen, scriptOf, faultOf}
-use Rattle.runner.specs.Rows.{Row, rowsBy, rowsOf, signed, rowText, rowsText, textOf}
+use Rattle.runner.specs.Script.{next, lineThen, scriptIn, headerThen, scriptOf, faultOf}
+use Rattle.runner.specs.Rows.{rowsBy, rowsOf, rowsText, textOf}
 use Rattle.runner.specs.Outcome.{judged, ranOf}
-use Rattle.longest.specs.Statement.{FewCalls, ShortAnswer, NeverShort}
+use Rattle.longest.specs.Statement.{FewCalls, ShortAnswer, RoomEnough, NeverShort}
 use Rattle.longest.proofs.Ended.{LineEnds, line-ends, HeaderEnds, header-ends}
 use Rattle.longest.proofs.Rows.{digits-grow, digits-all, all-most}
 
@@ -81,9 +75,9 @@ short-answer file fits =
 abbrev Enough : Ran → Type 0
 Enough r = r ≡ Short → ⊥
 
-pub never-short : NeverShort
+pub room-enough : RoomEnough
 unfolding ranOf judged
-never-short file room h = go (ltb 65536 (length file)) refl
+room-enough file room h = go (ltb 65536 (length file)) refl
   where
     text : ℕ
     text = length (textOf (scriptOf file))
@@ -98,3 +92,6 @@ never-short file room h = go (ltb 65536 (length file)) refl
         cond-by Enough (eqb (faultOf (scriptOf file)) 0) (cond (ltb room text) Short (Wrote text)) (Unreadable (faultOf (scriptOf file)))
         (λ _. written (ltb-false 65536 (length file) e) (ltb room text) refl)
         (λ q. let z : _≡_ {A = ℕ} 0 1 = cc in omega arith)
+
+pub never-short : NeverShort
+never-short file = room-enough file 65536 (omega arith)

@@ -1,7 +1,7 @@
 -- How long the text of a script's rows is at most: the digits of the call numbers and eight bytes a row, the first row's code and task taking one byte less.
 -- It rests on Codes, and on the laws of kept and tested: every state on the way is sound, so each checked call is the step.
 use mathlib.Core.Path.{_≡_, refl, sym, subst}
-use mathlib.Core.List.{List, [], _∷_, _++_}
+use mathlib.Core.List.{List, _∷_}
 use Prim.Native.Nat.{ℕ, zero, suc, _+_, _-_, _*_, _≤_}
 use native.Mathlib.Omega.{arith}
 use lib.ListN.{length, length-append}

@@ -1,10 +1,11 @@
 -- How many calls a file can hold and how long its answer can be, if the file is not too long: at most 65,536 bytes.
--- They speak of the rows, the text and the outcome of runner, and are proved in proofs/Longest.
+-- They speak of the rows, the text and the outcome of runner, and are proved in proofs/Longest and proofs/Reached.
 use mathlib.Core.Path.{_≡_}
-use mathlib.Core.List.{List}
-use Prim.Native.Nat.{ℕ, _≤_}
+use mathlib.Core.List.{List, _++_}
+use Prim.Native.Nat.{ℕ, zero, suc, _≤_}
 use lib.ListN.{length}
-use Rattle.runner.specs.declared.Ran.the-variants.{Short}
+use Rattle.text.specs.Bytes.{bytes}
+use Rattle.runner.specs.declared.Ran.the-variants.{Wrote, Short}
 use Rattle.runner.specs.Script.{scriptOf}
 use Rattle.runner.specs.Rows.{rowsOf, textOf}
 use Rattle.runner.specs.Outcome.{ranOf}
@@ -15,6 +16,23 @@ FewCalls = (file : List ℕ) → length file ≤ 65536 → length (rowsOf (scrip
 abbrev pub ShortAnswer : Type 0
 ShortAnswer = (file : List ℕ) → length file ≤ 65536 → length (textOf (scriptOf file)) ≤ 42576
 
--- a buffer of that many bytes is never too short, so one of 65,536 is not
+-- so a buffer of that many bytes is never too short
+abbrev pub RoomEnough : Type 0
+RoomEnough = (file : List ℕ) (room : ℕ) → 42576 ≤ room → ranOf file room ≡ Short → ⊥
+
+-- the buffer of runlist
 abbrev pub NeverShort : Type 0
-NeverShort = (file : List ℕ) (room : ℕ) → 42576 ≤ room → ranOf file room ≡ Short → ⊥
+NeverShort = (file : List ℕ) → ranOf file 65536 ≡ Short → ⊥
+
+-- ---- a file that holds so many calls, and has so long an answer
+-- n calls that are refused, each with a line end, and one more without
+unfoldable pub refusals : ℕ → List ℕ
+refusals zero = bytes "I,tn_task_exit,,,"
+refusals (suc n) = bytes "I,tn_task_exit,,,\n" ++ refusals n
+
+-- the first call creates task 10, which runs from then on
+unfoldable pub longest : List ℕ
+longest = bytes "ctx,service,a,b,c\n" ++ (bytes "T,tn_task_create,10,1,1\n" ++ refusals 3637)
+
+abbrev pub Reached : Type 0
+Reached = (length (rowsOf (scriptOf longest)) ≡ 3639) × (ranOf longest 42576 ≡ Wrote 42576)
