@@ -106,7 +106,7 @@ bool gritgarland_is_sound(gritgarland_state state);
 /* ---- lists of calls */
 enum {
     GRITGARLAND_FILE_MOST = 65536,   /* bytes of a file */
-    GRITGARLAND_ANSWER_MOST = 65536  /* bytes that are always enough for the answer */
+    GRITGARLAND_ANSWER_MOST = 42576  /* bytes of the longest answer to any file: proved, and reached */
 };
 
 /* Runs the list of calls in `file` from the fresh state and writes the answer. Returns the bytes written; or, with no byte of

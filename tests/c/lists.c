@@ -95,6 +95,19 @@ int main(void)
         n += 18;
     }
     run(n, GRITGARLAND_ANSWER_MOST, 38938, NULL, "as many calls as fit");
+    n = put(HEADER "T,tn_task_create,10,1,1\n");
+    while (n + 18 <= GRITGARLAND_FILE_MOST) {
+        memcpy(file + n, "I,tn_task_exit,,,\n", 18);
+        n += 18;
+    }
+    memcpy(file + n, "I,tn_task_exit,,,", 17);
+    run(n + 17 <= GRITGARLAND_FILE_MOST ? n + 17 : n, GRITGARLAND_ANSWER_MOST, GRITGARLAND_ANSWER_MOST, NULL, "the longest answer fits");
+    run(n + 17 <= GRITGARLAND_FILE_MOST ? n + 17 : n, GRITGARLAND_ANSWER_MOST - 1, -2, NULL, "and is not shorter");
+    n = put(HEADER);
+    while (n + 18 <= GRITGARLAND_FILE_MOST) {
+        memcpy(file + n, "T,tn_task_exit,,,\n", 18);
+        n += 18;
+    }
     memset(file + n, 'x', GRITGARLAND_FILE_MOST + 1 - n);
     run(GRITGARLAND_FILE_MOST, 4096, -(10 + 3641), NULL, "65,536 bytes are read");
     run(GRITGARLAND_FILE_MOST + 1, 4096, -1, NULL, "65,537 bytes are too long");

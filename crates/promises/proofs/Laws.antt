@@ -39,6 +39,14 @@ buffer {u = u} = fixed (λ q. (tt, (q, u)))
 pub buffers : {A B U : Type 0} {q s d : A} {v w e : B} {u : U} → (q ≡ d) × (v ≡ e) → (s ≡ d) × (w ≡ e) → _≡_ {A = Unit {0} × (A × (B × U))} (tt, (q, (v, u))) (tt, (s, (w, u)))
 buffers {u = u} p q i = (tt, (fixed (λ x. x) (p .0) (q .0) i, (fixed (λ x. x) (p .1) (q .1) i, u)))
 
+-- the result and what the first holds, each by an equation of its own
+pub both : {A B U : Type 0} {r s d : A} {q t e : B} {u : U} → (r ≡ d) × (q ≡ e) → (s ≡ d) × (t ≡ e) → _≡_ {A = A × (B × U)} (r, (q, u)) (s, (t, u))
+both {u = u} p q i = (fixed (λ x. x) (p .0) (q .0) i, (fixed (λ x. x) (p .1) (q .1) i, u))
+
+-- the result and what the second holds, where the first is only read
+pub answer : {A B U : Type 0} {r s d : A} {q t e : B} {u : U} → (r ≡ d) × (q ≡ e) → (s ≡ d) × (t ≡ e) → _≡_ {A = A × (Unit {0} × (B × U))} (r, (tt, (q, u))) (s, (tt, (t, u)))
+answer {u = u} p q i = (fixed (λ x. x) (p .0) (q .0) i, (tt, (fixed (λ x. x) (p .1) (q .1) i, u)))
+
 -- ---- tables read off the state that the contract puts them into
 abbrev pub queues : {U : Type 0} → State → U → List ℕ × (List ℕ × U)
 queues s u = (s .levels, (s .waits, u))

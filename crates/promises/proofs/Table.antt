@@ -14,8 +14,11 @@ use Rattle.carry.proofs as carry
 use Rattle.kernel.proofs as kernel
 use Rattle.border.proofs as border
 use Rattle.gritgarland.proofs as gritgarland
+use Rattle.text.proofs as text
+use Rattle.lines.proofs as lines
+use Rattle.runner.proofs as runner
 use Rattle.promises.specs.Tight.{Promise}
-use Rattle.promises.proofs.Laws.{of, plain, fixed, result, buffer, buffers, queues, tables}
+use Rattle.promises.proofs.Laws.{of, plain, fixed, result, buffer, buffers, both, answer, queues, tables}
 
 pub of-records : List Promise
 of-records =
@@ -156,4 +159,31 @@ pub of-gritgarland : List Promise
 of-gritgarland =
     of gritgarland.gritgarland_call.signature (λ M. gritgarland.gritgarland_call.clauses) (λ M. gritgarland.gritgarland_call.Met.met) (λ w κs a g h o p. plain w result) ∷
     of gritgarland.gritgarland_is_sound.signature (λ M. gritgarland.gritgarland_is_sound.clauses) (λ M. gritgarland.gritgarland_is_sound.Met.met) (λ w κs a g h o p. plain w result) ∷
+    of gritgarland.run_list.signature (λ M. gritgarland.run_list.clauses) (λ M. gritgarland.run_list.Met.met) (λ w κs a g h o p. plain w answer) ∷
+    []
+
+pub of-text : List Promise
+of-text =
+    of text.number.read_number.signature (λ M. text.number.read_number.clauses) (λ M. text.number.read_number.Met.met) (λ w κs a g h o p. plain w result) ∷
+    of text.decimals.width.signature (λ M. text.decimals.width.clauses) (λ M. text.decimals.width.Met.met) (λ w κs a g h o p. plain w result) ∷
+    of text.decimals.put_number.signature (λ M. text.decimals.put_number.clauses) (λ M. text.decimals.put_number.Met.met) (λ w κs a g h o p. plain w both) ∷
+    of text.words.begins.signature (λ M. text.words.begins.clauses) (λ M. text.words.begins.Met.met) (λ w κs a g h o p. plain w result) ∷
+    of text.words.byte_at.signature (λ M. text.words.byte_at.clauses) (λ M. text.words.byte_at.Met.met) (λ w κs a g h o p. plain w result) ∷
+    of text.words.has_room.signature (λ M. text.words.has_room.clauses) (λ M. text.words.has_room.Met.met) (λ w κs a g h o p. plain w result) ∷
+    of text.words.put_text.signature (λ M. text.words.put_text.clauses) (λ M. text.words.put_text.Met.met) (λ w κs a g h o p. plain w both) ∷
+    []
+
+pub of-lines : List Promise
+of-lines =
+    of lines.names.read_name.signature (λ M. lines.names.read_name.clauses) (λ M. lines.names.read_name.Met.met) (λ w κs a g h o p. plain w result) ∷
+    of lines.fields.line_end.signature (λ M. lines.fields.line_end.clauses) (λ M. lines.fields.line_end.Met.met) (λ w κs a g h o p. plain w result) ∷
+    of lines.fields.read_fields.signature (λ M. lines.fields.read_fields.clauses) (λ M. lines.fields.read_fields.Met.met) (λ w κs a g h o p. plain w result) ∷
+    of lines.line.read_line.signature (λ M. lines.line.read_line.clauses) (λ M. lines.line.read_line.Met.met) (λ w κs a g h o p. plain w result) ∷
+    of lines.line.read_header.signature (λ M. lines.line.read_header.clauses) (λ M. lines.line.read_header.Met.met) (λ w κs a g h o p. plain w result) ∷
+    []
+
+pub of-runner : List Promise
+of-runner =
+    of runner.run.signature (λ M. runner.run.clauses) (λ M. runner.run.Met.met) (λ w κs a g h o p. plain w answer) ∷
+    of runner.run_list.signature (λ M. runner.run_list.clauses) (λ M. runner.run_list.Met.met) (λ w κs a g h o p. plain w answer) ∷
     []

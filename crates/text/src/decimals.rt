@@ -42,8 +42,7 @@ pub fn width(n: u32) -> usize
 
 // The digits of n from the place `at` on, and the place after them; without room nothing is written and the place stays.
 pub fn put_number(buf: &mut [u8], at: usize, n: u32) -> usize
-    ensures { λ r. ⌜ r ≡ after (now (buf .entry)) at (decimal n) ⌝ }
-    ensures { λ r. ⌜ now (buf .exit) ≡ put (now (buf .entry)) at (decimal n) ⌝ }
+    ensures { λ r. ⌜ (r ≡ after (now (buf .entry)) at (decimal n)) × (now (buf .exit) ≡ put (now (buf .entry)) at (decimal n)) ⌝ }
 {
     let digits = width(n);
     if !has_room(buf.len(), at, digits) {

@@ -45,8 +45,7 @@ pub fn has_room(places: usize, at: usize, n: usize) -> bool
 
 // The bytes of t from the place `at` on, and the place after them; without room nothing is written and the place stays.
 pub fn put_text(buf: &mut [u8], at: usize, t: &[u8]) -> usize
-    ensures { λ r. ⌜ r ≡ after (now (buf .entry)) at (now (t .entry)) ⌝ }
-    ensures { λ r. ⌜ now (buf .exit) ≡ put (now (buf .entry)) at (now (t .entry)) ⌝ }
+    ensures { λ r. ⌜ (r ≡ after (now (buf .entry)) at (now (t .entry))) × (now (buf .exit) ≡ put (now (buf .entry)) at (now (t .entry))) ⌝ }
 {
     if !has_room(buf.len(), at, t.len()) {
         return at;
