@@ -100,9 +100,8 @@ int main(void)
         memcpy(file + n, "I,tn_task_exit,,,\n", 18);
         n += 18;
     }
-    memcpy(file + n, "I,tn_task_exit,,,", 17);
-    run(n + 17 <= GRITGARLAND_FILE_MOST ? n + 17 : n, GRITGARLAND_ANSWER_MOST, GRITGARLAND_ANSWER_MOST, NULL, "the longest answer fits");
-    run(n + 17 <= GRITGARLAND_FILE_MOST ? n + 17 : n, GRITGARLAND_ANSWER_MOST - 1, -2, NULL, "and is not shorter");
+    run(n, GRITGARLAND_ANSWER_MOST, GRITGARLAND_ANSWER_MOST, NULL, "the longest answer fits");
+    run(n, GRITGARLAND_ANSWER_MOST - 1, -2, NULL, "and is not shorter");
     n = put(HEADER);
     while (n + 18 <= GRITGARLAND_FILE_MOST) {
         memcpy(file + n, "T,tn_task_exit,,,\n", 18);
