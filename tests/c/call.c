@@ -1,5 +1,5 @@
-/* The kernel from C: create, wait, tick, release, refusals, an unsound state. Every byte of each next state is looked at
-   where the call must leave it alone. */
+/* The kernel from C: create, wait, tick, release, refusals, an unsound state. Every field of each next state is looked at
+   where the call must leave it alone; the padding in a task's record is no field. */
 #include "gritgarland.h"
 #include "libc.h"
 
@@ -19,7 +19,17 @@ static void expect(int holds, const char *what)
     }
 }
 
-/* The call, with the code and the running task it must answer; a refusal leaves every byte of the state. */
+static int same(const gritgarland_state *a, const gritgarland_state *b)
+{
+    for (int t = 0; t <= GRITGARLAND_TASKS; t++)
+        if (memcmp((const uint8_t *)a + 16 * t, (const uint8_t *)b + 16 * t, 9) != 0 || a->tasks[t].remaining != b->tasks[t].remaining)
+            return 0;
+    const uint8_t *x = (const uint8_t *)a, *y = (const uint8_t *)b;
+    size_t rest = offsetof(gritgarland_state, levels);
+    return memcmp(x + rest, y + rest, sizeof *a - rest) == 0;
+}
+
+/* The call, with the code and the running task it must answer; a refusal leaves every field of the state. */
 static void ask(uint32_t context, uint32_t service, uint32_t a, uint32_t b, uint32_t c, int32_t code, uint32_t running, const char *what)
 {
     gritgarland_state before = now;
@@ -27,7 +37,7 @@ static void ask(uint32_t context, uint32_t service, uint32_t a, uint32_t b, uint
     now = r.state;
     expect(r.code == code, what);
     expect(r.running == running, what);
-    expect(code >= 0 || memcmp(&before, &now, sizeof now) == 0, what);
+    expect(code >= 0 || same(&before, &now), what);
     expect(gritgarland_is_sound(now), what);
 }
 
@@ -70,12 +80,12 @@ int main(void)
     gritgarland_reply r = gritgarland_call(broken, GRITGARLAND_T, GRITGARLAND_TASK_EXIT, 0, 0, 0);
     expect(!gritgarland_is_sound(broken), "two wakeups are not sound");
     expect(r.code == GRITGARLAND_UNSOUND && r.running == 0, "an unsound state is refused");
-    expect(memcmp(&r.state, &broken, sizeof broken) == 0, "an unsound state comes back as it was");
+    expect(same(&r.state, &broken), "an unsound state comes back as it was");
     r = gritgarland_call(broken, 7, 99, 0, 0, 0);
     expect(r.code == GRITGARLAND_UNSOUND && r.running == 0, "before an unknown service");
     memset(&broken, 255, sizeof broken);
     r = gritgarland_call(broken, GRITGARLAND_I, GRITGARLAND_TICK_INT_PROCESSING, 0, 0, 0);
-    expect(r.code == GRITGARLAND_UNSOUND && memcmp(&r.state, &broken, sizeof broken) == 0, "garbage is refused");
+    expect(r.code == GRITGARLAND_UNSOUND && same(&r.state, &broken), "garbage is refused");
 
     if (failures == 0)
         printf("call.c: all as it must be\n");
