@@ -26,24 +26,6 @@ use plans_task::waits::sleep;
 use plans_task::waits::suspend;
 use plans_task::waits::wakeup;
 
-pub fn in_t(c: Context) -> bool
-    ensures { λ r. ⌜ r ≡ inT c ⌝ }
-{
-    match c {
-        Context::T => true,
-        Context::I => false,
-    }
-}
-
-pub fn in_i(c: Context) -> bool
-    ensures { λ r. ⌜ r ≡ inI c ⌝ }
-{
-    match c {
-        Context::T => false,
-        Context::I => true,
-    }
-}
-
 // The semaphore that a call names, or 0.
 pub fn named(a: Call) -> usize
     ensures { λ r. ⌜ r ≡ named a ⌝ }
