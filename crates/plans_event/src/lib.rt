@@ -52,10 +52,12 @@ fn meets_first(bits: u32, k: Task, y: Flag) -> bool
     ensures { λ r. ⌜ r ≡ meetsFirst bits k y ⌝ }
 {
     let first = y.first;
+    let pattern = k.pattern;
+    let mode = k.mode;
     if first == 0 {
         return false;
     }
-    is_met(k.pattern, k.mode as u32, bits)
+    is_met(pattern, mode as u32, bits)
 }
 
 // A wait or poll is met at once: the bits are in its answer.
@@ -127,6 +129,7 @@ pub fn event_set(mine: bool, flag: u32, bits: u32, k: Task, y: Flag) -> Plan
     ensures { λ r. ⌜ r ≡ eventSet mine flag bits k y ⌝ }
 {
     let made = y.attributes;
+    let had = y.bits;
     let numbered = is_flag(flag);
     if !numbered {
         return refused(Code::WrongParam);
@@ -141,7 +144,7 @@ pub fn event_set(mine: bool, flag: u32, bits: u32, k: Task, y: Flag) -> Plan
         return refused(Code::WContext);
     }
     let f = flag as u8;
-    let all = y.bits | bits;
+    let all = had | bits;
     let met = meets_first(all, k, y);
     let left = bits_left(made, met, all);
     does(Effect::Tells {
@@ -156,6 +159,7 @@ pub fn event_clear(mine: bool, flag: u32, bits: u32, y: Flag) -> Plan
     ensures { λ r. ⌜ r ≡ eventClear mine flag bits y ⌝ }
 {
     let made = y.attributes;
+    let had = y.bits;
     let numbered = is_flag(flag);
     if !numbered {
         return refused(Code::WrongParam);
@@ -170,7 +174,7 @@ pub fn event_clear(mine: bool, flag: u32, bits: u32, y: Flag) -> Plan
         return refused(Code::WContext);
     }
     let f = flag as u8;
-    let left = y.bits & (4294967295 - bits);
+    let left = had & (4294967295 - bits);
     flags(f, made, left)
 }
 
