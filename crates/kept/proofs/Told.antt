@@ -13,11 +13,11 @@ use Rattle.model.specs.declared.News.{News}
 use Rattle.model.specs.Task.{told, rowOf}
 use Rattle.model.specs.State.{task, waiters, moved}
 use Rattle.model.specs.Effect.{toldAll}
-use Rattle.model.specs.Test.{occ, listsOnly, padded}
+use Rattle.model.specs.Test.{occ, padded}
 use Rattle.model.specs.Sound.{Sound}
 use Rattle.laws.proofs.Number.{same?}
 use Rattle.laws.proofs.Occ.{one-eq, one-ne, occ-cons, occ-none}
-use Rattle.laws.proofs.Padded.{first-none}
+use Rattle.laws.proofs.Padded.{padded-rest, first-none}
 use Rattle.laws.proofs.Record.{row-none}
 use Rattle.kept.proofs.Listed.{key-of, listed-in}
 use Rattle.kept.proofs.Changes.{MayWait, task-in, task-cases, sound-moved}
@@ -43,10 +43,6 @@ pub waiter-in : (s : State) → Sound s → (t : ℕ) → 1 ≤ rowOf (task s t)
 waiter-in s k t h = task-in rowOf row-none s k t h
 
 -- ---- the queue, from its first to its last
-pub padded-rest : (x : ℕ) (q : List ℕ) → (x ≡ 0 → ⊥) → T (padded (x ∷ q)) → T (padded q)
-unfolding listsOnly
-padded-rest x q some h = rw (ne-eqb x 0 some) at h
-
 -- it holds live tasks, and whoever waits in row m and has not been told
 record Queue (w : News) (m : ℕ) (q : List ℕ) (s : State) : Type 0 where
   sound : Sound s
@@ -65,7 +61,7 @@ module _ (w : News) (m : ℕ) (some : 1 ≤ m) where
   queue-next : (t : ℕ) (q : List ℕ) (s : State) → (t ≡ 0 → ⊥) → Queue w m (t ∷ q) s → Queue w m q (moved t (told w (task s t)) s)
   queue-next t q s low k = record {
     sound = sound-moved s (k .sound) t x (omega arith) (first .0) (sound-told (task s t) (k .sound .tasks t) (first .1) w) may;
-    ends = padded-rest t q low (k .ends);
+    ends = padded-rest t q (k .ends);
     lives = λ u h there.
         let o = k .lives u h (omega (arith, occ-cons u t q)) in
         (o .0, cases (λ y. 1 ≤ y .active) u (λ e. omega (arith, told-live w (task s t), first .1)) (λ other. o .1));
