@@ -105,6 +105,16 @@ sound-created p o low top = go (eqb o 0)
     go false = sound-activated (dormant p) (sound-dormant p low top) low
 
 -- ---- records of a live task
+-- the clauses of what a wait asks for: for w, on object o, pattern p in mode m
+record SoundAsk (w o p m : ℕ) : Type 0 where
+  flag : w ≡ aFlag → (1 ≤ o) × (o ≤ 8)
+  asks : w ≡ aFlag → (1 ≤ p) × (m ≤ 1)
+  silent : (w ≡ aFlag → ⊥) → (p ≡ 0) × (m ≡ 0)
+
+-- no other wait asks for anything
+unasked : (w o : ℕ) → (w ≡ aFlag → ⊥) → SoundAsk w o 0 0
+unasked w o other = record { flag = λ e. absurd (other e); asks = λ e. absurd (other e); silent = λ n. (refl, refl) }
+
 -- the clauses of a wait: for w, with r ticks left, on object o, asking for pattern p in mode m, at n wakeups, code v and bits b
 record SoundWait (w r o p m n v b : ℕ) : Type 0 where
   wait : (w ≡ nothing) ⊎ ((w ≡ aSleep) ⊎ ((w ≡ aSemaphore) ⊎ (w ≡ aFlag)))
@@ -112,9 +122,7 @@ record SoundWait (w r o p m n v b : ℕ) : Type 0 where
   free : w ≡ nothing → (r ≡ 0) × (o ≡ 0)
   sleeper : w ≡ aSleep → (n ≡ 0) × (o ≡ 0)
   object : w ≡ aSemaphore → (1 ≤ o) × (o ≤ 12)
-  flag : w ≡ aFlag → (1 ≤ o) × (o ≤ 8)
-  asks : w ≡ aFlag → (1 ≤ p) × (m ≤ 1)
-  silent : (w ≡ aFlag → ⊥) → (p ≡ 0) × (m ≡ 0)
+  ask : SoundAsk w o p m
 
 module _ (x : Task) (k : SoundTask x) (live : 1 ≤ x .active) where
   -- it stays what it was created as, and live
@@ -135,17 +143,20 @@ module _ (x : Task) (k : SoundTask x) (live : 1 ≤ x .active) where
     free = w .free;
     sleeper = w .sleeper;
     object = w .object;
-    flag = w .flag;
-    asks = w .asks;
-    silent = w .silent;
+    flag = w .ask .flag;
+    asks = w .ask .asks;
+    silent = w .ask .silent;
   }
 
   priority-now : (1 ≤ x .priority) × (x .priority ≤ 30)
   priority-now = k .priority (live-made x k live)
 
   -- the wait stays as it was
+  ask-now : SoundAsk (x .wait) (x .object) (x .pattern) (x .mode)
+  ask-now = record { flag = k .flag; asks = k .asks; silent = k .silent }
+
   wait-now : SoundWait (x .wait) (x .remaining) (x .object) (x .pattern) (x .mode) (x .wakeups) (x .code) (x .handed)
-  wait-now = record { wait = k .wait; waiting = k .waiting; free = k .free; sleeper = k .sleeper; object = k .object; flag = k .flag; asks = k .asks; silent = k .silent }
+  wait-now = record { wait = k .wait; waiting = k .waiting; free = k .free; sleeper = k .sleeper; object = k .object; ask = ask-now }
 
   pub sound-withPriority : (p : ℕ) → 1 ≤ p → p ≤ 30 → SoundTask (withPriority x p)
   sound-withPriority p low top = still (withPriority x p) refl refl (low, top) (k .suspended) (k .wakeups) (k .activations) (k .code) wait-now
@@ -160,17 +171,17 @@ module _ (x : Task) (k : SoundTask x) (live : 1 ≤ x .active) where
   pub sound-withWakeups : (n : ℕ) → n ≤ 1 → (x .wait ≡ aSleep → n ≡ 0) → SoundTask (withWakeups x n)
   sound-withWakeups n h awake =
       still (withWakeups x n) refl refl priority-now (k .suspended) h (k .activations) (k .code)
-      (record { wait = k .wait; waiting = k .waiting; free = k .free; sleeper = λ e. (awake e, k .sleeper e .1); object = k .object; flag = k .flag; asks = k .asks; silent = k .silent })
+      (record { wait = k .wait; waiting = k .waiting; free = k .free; sleeper = λ e. (awake e, k .sleeper e .1); object = k .object; ask = ask-now })
 
   pub sound-withRemaining : (d : ℕ) → 1 ≤ d → (x .wait ≡ nothing → ⊥) → SoundTask (withRemaining x d)
   sound-withRemaining d some waits =
       still (withRemaining x d) refl refl priority-now (k .suspended) (k .wakeups) (k .activations) (k .code)
-      (record { wait = k .wait; waiting = λ n. (some, k .waiting n .1, k .waiting n .2); free = λ e. absurd (waits e); sleeper = k .sleeper; object = k .object; flag = k .flag; asks = k .asks; silent = k .silent })
+      (record { wait = k .wait; waiting = λ n. (some, k .waiting n .1, k .waiting n .2); free = λ e. absurd (waits e); sleeper = k .sleeper; object = k .object; ask = ask-now })
 
   pub sound-ended : (v b : ℕ) → T (isWaitCode v) → SoundTask (ended x v b)
   sound-ended v b h =
       still (ended x v b) refl refl priority-now (k .suspended) (k .wakeups) (k .activations) h
-      (record { wait = inl refl; waiting = λ n. absurd (n refl); free = λ e. (refl, refl); sleeper = λ e. absurd (omega arith); object = λ e. absurd (omega arith); flag = λ e. absurd (omega arith); asks = λ e. absurd (omega arith); silent = λ n. (refl, refl) })
+      (record { wait = inl refl; waiting = λ n. absurd (n refl); free = λ e. (refl, refl); sleeper = λ e. absurd (omega arith); object = λ e. absurd (omega arith); ask = unasked nothing 0 (λ e. omega arith) })
 
   -- a wait begins
   begins : (w o d p m : ℕ) → SoundWait w d o p m (x .wakeups) 0 0 → SoundTask (waiting x w o d p m)
@@ -179,17 +190,18 @@ module _ (x : Task) (k : SoundTask x) (live : 1 ≤ x .active) where
   pub sound-asleep : (d : ℕ) → 1 ≤ d → x .wakeups ≡ 0 → SoundTask (waiting x aSleep 0 d 0 0)
   sound-asleep d some none =
       begins aSleep 0 d 0 0
-      (record { wait = inr (inl refl); waiting = λ n. (some, refl, refl); free = λ e. absurd (omega arith); sleeper = λ e. (none, refl); object = λ e. absurd (omega arith); flag = λ e. absurd (omega arith); asks = λ e. absurd (omega arith); silent = λ n. (refl, refl) })
+      (record { wait = inr (inl refl); waiting = λ n. (some, refl, refl); free = λ e. absurd (omega arith); sleeper = λ e. (none, refl); object = λ e. absurd (omega arith); ask = unasked aSleep 0 (λ e. omega arith) })
 
   pub sound-queued : (m d : ℕ) → 1 ≤ m → m ≤ 12 → 1 ≤ d → SoundTask (waiting x aSemaphore m d 0 0)
   sound-queued m d low top some =
       begins aSemaphore m d 0 0
-      (record { wait = inr (inr (inl refl)); waiting = λ n. (some, refl, refl); free = λ e. absurd (omega arith); sleeper = λ e. absurd (omega arith); object = λ e. (low, top); flag = λ e. absurd (omega arith); asks = λ e. absurd (omega arith); silent = λ n. (refl, refl) })
+      (record { wait = inr (inr (inl refl)); waiting = λ n. (some, refl, refl); free = λ e. absurd (omega arith); sleeper = λ e. absurd (omega arith); object = λ e. (low, top); ask = unasked aSemaphore m (λ e. omega arith) })
 
   pub sound-asking : (f d p m : ℕ) → 1 ≤ f → f ≤ 8 → 1 ≤ d → 1 ≤ p → m ≤ 1 → SoundTask (waiting x aFlag f d p m)
   sound-asking f d p m low top some bits mode =
+      let ask : SoundAsk aFlag f p m = record { flag = λ e. (low, top); asks = λ e. (bits, mode); silent = λ n. absurd (n refl) } in
       begins aFlag f d p m
-      (record { wait = inr (inr (inr refl)); waiting = λ n. (some, refl, refl); free = λ e. absurd (omega arith); sleeper = λ e. absurd (omega arith); object = λ e. absurd (omega arith); flag = λ e. (low, top); asks = λ e. (bits, mode); silent = λ n. absurd (n refl) })
+      (record { wait = inr (inr (inr refl)); waiting = λ n. (some, refl, refl); free = λ e. absurd (omega arith); sleeper = λ e. absurd (omega arith); object = λ e. absurd (omega arith); ask = ask })
 
   pub sound-told : (w : News) → SoundTask (told w x)
   unfolding told

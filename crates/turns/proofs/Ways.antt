@@ -9,7 +9,6 @@ use Rattle.model.specs.declared.Task.{Task}
 use Rattle.model.specs.declared.State.{State}
 use Rattle.model.specs.declared.Plan.{Plan}
 use Rattle.model.specs.declared.News.{News}
-use Rattle.model.specs.declared.News.the-variants.{Deleted, Bits}
 use Rattle.model.specs.declared.Effect.the-variants.{Nothing, Moves, Stops, Counts, Deletes, Slices, Ticks, Flags, Tells}
 use Rattle.model.specs.declared.Code.{Code}
 use Rattle.model.specs.declared.Code.the-variants.{WContext, WrongParam, NoExs}
@@ -22,7 +21,7 @@ use Rattle.model.specs.declared.Event.the-variants.{Create, Delete, Set, Iset, 
 use Rattle.model.specs.Row.{firstOf}
 use Rattle.model.specs.Flag.{isAttributes, isMet, flagRow}
 use Rattle.model.specs.Task.{isCreated, isDormant, isSuspended, isWaiting, isAsleep, aSleep, served, released, rowOf, ended}
-use Rattle.model.specs.State.{task, count, maximum, attribute, bitsOf, semaphore, flag, running}
+use Rattle.model.specs.State.{task, count, maximum, bitsOf, semaphore, flag, running}
 use Rattle.model.specs.Code.{isRefusal}
 use Rattle.model.specs.Plan.{isTask, isPriority, isSemaphore, isMaximum, isTimeout, isSlice, isMade, isFlag, isPattern, isMode, isFlagMade, does, answers, gives, refused, need, checked}
 use Rattle.model.specs.Service.{create, delete, activate, exit, terminate, suspend, resume, sleep, wakeup, releaseWait, wanted, changePriority, tsliceTicks, tick, semCreate, semDelete, signal, acquire, polling}
