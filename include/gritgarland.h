@@ -16,6 +16,7 @@ enum {
     GRITGARLAND_TASKS = 24,
     GRITGARLAND_LEVELS = 30,
     GRITGARLAND_SEMAPHORES = 12,
+    GRITGARLAND_FLAGS = 8,
     GRITGARLAND_PLACES = 24 /* of each queue: task numbers, first to last, then zeros */
 };
 
@@ -26,35 +27,41 @@ typedef struct gritgarland_task {
     uint8_t priority;    /* the current one */
     uint8_t active;      /* 0: dormant, or not created */
     uint8_t suspended;   /* 1: suspended */
-    uint8_t wait;        /* 0 for nothing, 1 a sleep, 2 a semaphore */
-    uint8_t object;      /* the semaphore that is waited on, else 0 */
+    uint8_t wait;        /* 0 for nothing, 1 a sleep, 2 a semaphore, 3 an event flag */
+    uint8_t object;      /* the semaphore or flag that is waited on, else 0 */
     uint8_t wakeups;     /* wakeup count */
     uint8_t activations; /* activation count */
     uint8_t code;        /* wait code without its sign: 0, 4, 10 or 11 */
+    uint8_t mode;        /* of a flag wait: 0 any bit of its pattern, 1 all; else 0 */
     uint32_t remaining;  /* ticks until the timeout */
+    uint32_t pattern;    /* the bits that a flag wait asks for, else 0 */
+    uint32_t handed;     /* the bits that the last wait handed over; 0 during any wait */
 } gritgarland_task;
 
 typedef struct gritgarland_state {
     gritgarland_task tasks[25];
     uint8_t levels[31][24]; /* the runnable tasks of each level */
-    uint8_t waits[13][24];  /* the tasks that wait on each semaphore */
+    uint8_t waits[21][24];  /* the tasks that wait: rows 1 to 12 on each semaphore, rows 13 to 20 on flags 1 to 8 */
     uint16_t slices[31];
     uint16_t charges[31];
     uint16_t counts[13];
-    uint16_t maxima[13]; /* 0: the semaphore is not created */
+    uint16_t maxima[13];   /* 0: the semaphore is not created */
+    uint8_t attributes[9]; /* a GRITGARLAND_ATTR_ number plus 1; 0: the flag is not created */
+    uint32_t bits[9];
     uint32_t time;
 } gritgarland_state;
 
 typedef struct gritgarland_reply {
     int32_t code;     /* a GRITGARLAND_ code below */
     uint32_t running; /* the task that runs after the call; 0: none */
+    uint32_t value;   /* the bits that a flag wait or poll got at once, all of them; else 0 */
     gritgarland_state state;
 } gritgarland_reply;
 
 /* ---- contexts */
 enum { GRITGARLAND_T = 0, /* the running task, or start-up code */ GRITGARLAND_I = 1 /* an interrupt */ };
 
-/* ---- services, with the numbers they take as a, b, c; a number not taken is not looked at */
+/* ---- services, with the numbers they take as a, b, c, d; a number not taken is not looked at */
 enum {
     GRITGARLAND_TASK_CREATE = 1,           /* task, priority, option */
     GRITGARLAND_TASK_DELETE = 2,           /* task */
@@ -78,8 +85,25 @@ enum {
     GRITGARLAND_SEM_ISIGNAL = 20,          /* semaphore */
     GRITGARLAND_SEM_ACQUIRE = 21,          /* semaphore, timeout */
     GRITGARLAND_SEM_POLLING = 22,          /* semaphore */
-    GRITGARLAND_SEM_IPOLLING = 23          /* semaphore */
+    GRITGARLAND_SEM_IPOLLING = 23,         /* semaphore */
+    GRITGARLAND_EVENT_CREATE = 24,         /* flag, attributes, start bits */
+    GRITGARLAND_EVENT_DELETE = 25,         /* flag */
+    GRITGARLAND_EVENT_SET = 26,            /* flag, bits */
+    GRITGARLAND_EVENT_ISET = 27,           /* flag, bits */
+    GRITGARLAND_EVENT_CLEAR = 28,          /* flag, bits to take out; TNKernel's own clear takes the bits to keep: complement them */
+    GRITGARLAND_EVENT_ICLEAR = 29,         /* as clear */
+    GRITGARLAND_EVENT_WAIT = 30,           /* flag, pattern, mode, timeout */
+    GRITGARLAND_EVENT_WAIT_POLLING = 31,   /* flag, pattern, mode */
+    GRITGARLAND_EVENT_IWAIT = 32           /* flag, pattern, mode */
 };
+
+/* ---- attributes of a flag, and modes of a wait for it */
+enum {
+    GRITGARLAND_ATTR_NEITHER = 0,       /* any number of waiters; the bits stay */
+    GRITGARLAND_ATTR_SINGLE = 1,        /* one waiter at most */
+    GRITGARLAND_ATTR_SINGLE_AND_CLR = 3 /* and the bits are zeroed whenever a wait or poll is met */
+};
+enum { GRITGARLAND_OR = 0, /* any bit of the pattern */ GRITGARLAND_AND = 1 /* all of them */ };
 
 /* ---- codes; a negative one refuses, and the state comes back unchanged */
 enum {
@@ -90,6 +114,7 @@ enum {
     GRITGARLAND_WSTATE = -3,
     GRITGARLAND_TIMEOUT = -4,
     GRITGARLAND_WRONG_PARAM = -5,
+    GRITGARLAND_ILUSE = -8,
     GRITGARLAND_NOEXS = -9,
     GRITGARLAND_DLT = -10,
     GRITGARLAND_RELEASED = -11,
@@ -98,7 +123,7 @@ enum {
 
 /* One call on any state. A state that breaks a rule gets GRITGARLAND_UNSOUND and task 0; a context or service number that
    names nothing gets GRITGARLAND_WRONG_PARAM. */
-gritgarland_reply gritgarland_call(gritgarland_state state, uint32_t context, uint32_t service, uint32_t a, uint32_t b, uint32_t c);
+gritgarland_reply gritgarland_call(gritgarland_state state, uint32_t context, uint32_t service, uint32_t a, uint32_t b, uint32_t c, uint32_t d);
 
 /* Does a state keep every rule of a sound state? */
 bool gritgarland_is_sound(gritgarland_state state);
@@ -109,7 +134,9 @@ enum {
     GRITGARLAND_ANSWER_MOST = 42576  /* bytes of the longest answer to any file: proved, and reached */
 };
 
-/* Runs the list of calls in `file` from the fresh state and writes the answer. Returns the bytes written; or, with no byte of
+/* A list has the header `ctx,service,a,b,c`, or `ctx,service,a,b,c,d` and a sixth field on every line; tn_event_wait needs the
+   second. A list written for TNKernel itself must complement the patterns of its clears.
+   Runs the list of calls in `file` from the fresh state and writes the answer. Returns the bytes written; or, with no byte of
    `answer` changed: -1, the file is too long; -(10 + line), the first line that can't be read, the header being line 1;
    -2, the answer does not fit. Bytes beyond those written stay.
    What can't be checked here and is the caller's to see to: the two buffers do not overlap, each has as many bytes as is said,

@@ -1,15 +1,19 @@
-/* The kernel from C: create, wait, tick, release, refusals, an unsound state. Every field of each next state is looked at
-   where the call must leave it alone; the padding in a task's record is no field. */
+/* The kernel from C: every service by its constant, accepted at least once; refusals, an unsound state. Every field of each next
+   state is looked at where the call must leave it alone; the padding in a task's record and after the attributes is no field. */
 #include "gritgarland.h"
 #include "libc.h"
 
-_Static_assert(sizeof(gritgarland_task) == 16, "a task's record");
-_Static_assert(sizeof(gritgarland_state) == 1636, "a state");
-_Static_assert(offsetof(gritgarland_state, levels) == 400 && offsetof(gritgarland_state, waits) == 1144, "the queues");
-_Static_assert(offsetof(gritgarland_state, slices) == 1456 && offsetof(gritgarland_state, time) == 1632, "the numbers");
+_Static_assert(sizeof(gritgarland_task) == 24, "a task's record");
+_Static_assert(sizeof(gritgarland_state) == 2076 && sizeof(gritgarland_reply) == 2088, "a state");
+_Static_assert(offsetof(gritgarland_state, levels) == 600 && offsetof(gritgarland_state, waits) == 1344, "the queues");
+_Static_assert(offsetof(gritgarland_state, slices) == 1848 && offsetof(gritgarland_state, time) == 2072, "the numbers");
+_Static_assert(offsetof(gritgarland_state, attributes) == 2024 && offsetof(gritgarland_state, bits) == 2036, "the flags");
+
+enum { SERVICES = 32 };
 
 static int failures;
 static gritgarland_state now;
+static int accepted[SERVICES + 1];
 
 static void expect(int holds, const char *what)
 {
@@ -19,26 +23,97 @@ static void expect(int holds, const char *what)
     }
 }
 
-static int same(const gritgarland_state *a, const gritgarland_state *b)
+static int same_part(const gritgarland_state *a, const gritgarland_state *b, size_t from, size_t to)
 {
-    for (int t = 0; t <= GRITGARLAND_TASKS; t++)
-        if (memcmp((const uint8_t *)a + 16 * t, (const uint8_t *)b + 16 * t, 9) != 0 || a->tasks[t].remaining != b->tasks[t].remaining)
-            return 0;
-    const uint8_t *x = (const uint8_t *)a, *y = (const uint8_t *)b;
-    size_t rest = offsetof(gritgarland_state, levels);
-    return memcmp(x + rest, y + rest, sizeof *a - rest) == 0;
+    return memcmp((const uint8_t *)a + from, (const uint8_t *)b + from, to - from) == 0;
 }
 
-/* The call, with the code and the running task it must answer; a refusal leaves every field of the state. */
-static void ask(uint32_t context, uint32_t service, uint32_t a, uint32_t b, uint32_t c, int32_t code, uint32_t running, const char *what)
+static int same(const gritgarland_state *a, const gritgarland_state *b)
+{
+    for (size_t t = 0; t <= GRITGARLAND_TASKS; t++)
+        if (!same_part(a, b, 24 * t, 24 * t + 10) || !same_part(a, b, 24 * t + 12, 24 * t + 24))
+            return 0;
+    return same_part(a, b, 600, 2033) && same_part(a, b, 2036, sizeof *a);
+}
+
+/* The call, with the code, the running task and the value it must answer; a refusal leaves every field of the state. */
+static void ask4(uint32_t context, uint32_t service, uint32_t a, uint32_t b, uint32_t c, uint32_t d, int32_t code, uint32_t running, uint32_t value, const char *what)
 {
     gritgarland_state before = now;
-    gritgarland_reply r = gritgarland_call(now, context, service, a, b, c);
+    gritgarland_reply r = gritgarland_call(now, context, service, a, b, c, d);
     now = r.state;
     expect(r.code == code, what);
     expect(r.running == running, what);
+    expect(r.value == value, what);
     expect(code >= 0 || same(&before, &now), what);
     expect(gritgarland_is_sound(now), what);
+    if (service <= SERVICES && code >= 0)
+        accepted[service] = 1;
+}
+
+static void ask(uint32_t context, uint32_t service, uint32_t a, uint32_t b, uint32_t c, int32_t code, uint32_t running, const char *what)
+{
+    ask4(context, service, a, b, c, 0, code, running, 0, what);
+}
+
+/* Task 1 runs alone, at level 5. */
+static void flags(void)
+{
+    ask(GRITGARLAND_T, GRITGARLAND_EVENT_CREATE, 1, GRITGARLAND_ATTR_SINGLE_AND_CLR, 0, GRITGARLAND_NO_ERR, 1, "create a flag");
+    ask(GRITGARLAND_T, GRITGARLAND_EVENT_CREATE, 1, GRITGARLAND_ATTR_NEITHER, 0, GRITGARLAND_WRONG_PARAM, 1, "a flag that exists");
+    ask(GRITGARLAND_T, GRITGARLAND_EVENT_CREATE, 2, 2, 0, GRITGARLAND_WRONG_PARAM, 1, "CLR without SINGLE");
+    ask4(GRITGARLAND_T, GRITGARLAND_EVENT_WAIT, 1, 6, GRITGARLAND_AND, GRITGARLAND_ENDLESS, GRITGARLAND_PENDING, 0, 0, "task 1 waits on a flag");
+    expect(now.waits[13][0] == 1 && now.tasks[1].wait == 3 && now.tasks[1].object == 1, "the queue of the flag");
+    expect(now.tasks[1].pattern == 6 && now.tasks[1].mode == 1 && now.tasks[1].remaining == GRITGARLAND_ENDLESS, "what the wait asks for");
+    ask(GRITGARLAND_I, GRITGARLAND_EVENT_ISET, 1, 2, 0, GRITGARLAND_NO_ERR, 0, "a set that does not meet it");
+    ask(GRITGARLAND_I, GRITGARLAND_EVENT_IWAIT, 1, 2, GRITGARLAND_OR, GRITGARLAND_ILUSE, 0, "a poll beside the waiter of SINGLE");
+    expect(now.bits[1] == 2 && now.attributes[1] == 4, "the flag's numbers");
+    ask(GRITGARLAND_T, GRITGARLAND_EVENT_SET, 1, 13, 0, GRITGARLAND_NO_ERR, 1, "a set that meets it");
+    expect(now.tasks[1].handed == 15 && now.tasks[1].code == 0 && now.bits[1] == 0, "the bits as set are handed over, and CLR zeroes them");
+    ask(GRITGARLAND_T, GRITGARLAND_EVENT_WAIT_POLLING, 1, 1, GRITGARLAND_OR, GRITGARLAND_TIMEOUT, 1, "a poll that is not met");
+    ask(GRITGARLAND_T, GRITGARLAND_EVENT_SET, 1, 7, 0, GRITGARLAND_NO_ERR, 1, "a set that meets nobody");
+    ask(GRITGARLAND_T, GRITGARLAND_EVENT_CLEAR, 1, 1, 0, GRITGARLAND_NO_ERR, 1, "a clear");
+    ask(GRITGARLAND_I, GRITGARLAND_EVENT_ICLEAR, 1, 10, 0, GRITGARLAND_NO_ERR, 1, "a clear from an interrupt");
+    expect(now.bits[1] == 4, "a clear takes its bits out");
+    ask4(GRITGARLAND_T, GRITGARLAND_EVENT_WAIT, 1, 12, GRITGARLAND_OR, 1, GRITGARLAND_NO_ERR, 1, 4, "a wait that is met at once");
+    expect(now.bits[1] == 0 && now.tasks[1].handed == 15, "CLR zeroes the bits, and the record stays");
+    ask4(GRITGARLAND_T, GRITGARLAND_EVENT_WAIT, 1, 12, GRITGARLAND_OR, 0, GRITGARLAND_WRONG_PARAM, 1, 0, "a flag wait of 0 ticks");
+    ask4(GRITGARLAND_T, GRITGARLAND_EVENT_WAIT, 1, 0, GRITGARLAND_OR, 1, GRITGARLAND_WRONG_PARAM, 1, 0, "pattern 0");
+    ask4(GRITGARLAND_T, GRITGARLAND_EVENT_WAIT, 1, 1, 2, 1, GRITGARLAND_WRONG_PARAM, 1, 0, "mode 2");
+    ask(GRITGARLAND_T, GRITGARLAND_EVENT_CREATE, 8, GRITGARLAND_ATTR_NEITHER, 9, GRITGARLAND_NO_ERR, 1, "a flag with start bits");
+    ask4(GRITGARLAND_T, GRITGARLAND_EVENT_WAIT_POLLING, 8, 9, GRITGARLAND_AND, 0, GRITGARLAND_NO_ERR, 1, 9, "a poll that is met");
+    ask4(GRITGARLAND_I, GRITGARLAND_EVENT_IWAIT, 8, 8, GRITGARLAND_OR, 0, GRITGARLAND_NO_ERR, 1, 9, "a poll from an interrupt");
+    ask(GRITGARLAND_T, GRITGARLAND_EVENT_DELETE, 1, 0, 0, GRITGARLAND_NO_ERR, 1, "delete a flag");
+    ask(GRITGARLAND_T, GRITGARLAND_EVENT_SET, 1, 1, 0, GRITGARLAND_NOEXS, 1, "a flag that is not created");
+}
+
+/* Task 1 runs, at level 5; task 2 is dormant. At the end task 2 and semaphore 1 are gone. */
+static void the_others(void)
+{
+    ask(GRITGARLAND_T, GRITGARLAND_TASK_ACTIVATE, 2, 0, 0, GRITGARLAND_NO_ERR, 1, "activate task 2");
+    ask(GRITGARLAND_T, GRITGARLAND_TASK_SUSPEND, 2, 0, 0, GRITGARLAND_NO_ERR, 1, "suspend task 2");
+    ask(GRITGARLAND_T, GRITGARLAND_TASK_RESUME, 2, 0, 0, GRITGARLAND_NO_ERR, 1, "resume task 2");
+    ask(GRITGARLAND_T, GRITGARLAND_SYS_TSLICE_TICKS, 5, 3, 0, GRITGARLAND_NO_ERR, 1, "a slice");
+    ask(GRITGARLAND_T, GRITGARLAND_TASK_CHANGE_PRIORITY, 2, 4, 0, GRITGARLAND_NO_ERR, 2, "task 2 takes over");
+    ask(GRITGARLAND_T, GRITGARLAND_TASK_SLEEP, GRITGARLAND_ENDLESS, 0, 0, GRITGARLAND_PENDING, 1, "task 2 sleeps");
+    ask(GRITGARLAND_T, GRITGARLAND_TASK_WAKEUP, 2, 0, 0, GRITGARLAND_NO_ERR, 2, "and is woken");
+    ask(GRITGARLAND_T, GRITGARLAND_TASK_SLEEP, GRITGARLAND_ENDLESS, 0, 0, GRITGARLAND_PENDING, 1, "task 2 sleeps again");
+    ask(GRITGARLAND_I, GRITGARLAND_TASK_IWAKEUP, 2, 0, 0, GRITGARLAND_NO_ERR, 2, "and is woken by an interrupt");
+    ask(GRITGARLAND_T, GRITGARLAND_SEM_ACQUIRE, 1, GRITGARLAND_ENDLESS, 0, GRITGARLAND_PENDING, 1, "task 2 waits");
+    ask(GRITGARLAND_T, GRITGARLAND_TASK_RELEASE_WAIT, 2, 0, 0, GRITGARLAND_NO_ERR, 2, "and is released");
+    ask(GRITGARLAND_T, GRITGARLAND_SEM_ACQUIRE, 1, GRITGARLAND_ENDLESS, 0, GRITGARLAND_PENDING, 1, "task 2 waits again");
+    ask(GRITGARLAND_I, GRITGARLAND_TASK_IRELEASE_WAIT, 2, 0, 0, GRITGARLAND_NO_ERR, 2, "and is released by an interrupt");
+    expect(now.tasks[2].code == 11, "the code of a released wait");
+    ask(GRITGARLAND_T, GRITGARLAND_TASK_CHANGE_PRIORITY, 2, 0, 0, GRITGARLAND_NO_ERR, 1, "back to the priority at creation");
+    ask(GRITGARLAND_T, GRITGARLAND_TASK_TERMINATE, 2, 0, 0, GRITGARLAND_NO_ERR, 1, "terminate task 2");
+    ask(GRITGARLAND_I, GRITGARLAND_TASK_IACTIVATE, 2, 0, 0, GRITGARLAND_NO_ERR, 1, "activate it by an interrupt");
+    ask(GRITGARLAND_T, GRITGARLAND_TASK_DELETE, 2, 0, 0, GRITGARLAND_WCONTEXT, 1, "a task that is not dormant");
+    ask(GRITGARLAND_T, GRITGARLAND_TASK_TERMINATE, 2, 0, 0, GRITGARLAND_NO_ERR, 1, "terminate it again");
+    ask(GRITGARLAND_T, GRITGARLAND_TASK_DELETE, 2, 0, 0, GRITGARLAND_NO_ERR, 1, "delete it");
+    ask(GRITGARLAND_I, GRITGARLAND_SEM_IPOLLING, 1, 0, 0, GRITGARLAND_TIMEOUT, 1, "a poll of an empty semaphore by an interrupt");
+    ask(GRITGARLAND_T, GRITGARLAND_SEM_SIGNAL, 1, 0, 0, GRITGARLAND_NO_ERR, 1, "a release");
+    ask(GRITGARLAND_I, GRITGARLAND_SEM_IPOLLING, 1, 0, 0, GRITGARLAND_NO_ERR, 1, "a poll by an interrupt takes the resource");
+    ask(GRITGARLAND_T, GRITGARLAND_SEM_DELETE, 1, 0, 0, GRITGARLAND_NO_ERR, 1, "delete the semaphore");
 }
 
 int main(void)
@@ -67,24 +142,32 @@ int main(void)
     ask(GRITGARLAND_T, GRITGARLAND_TASK_RESUME, 1, 0, 0, GRITGARLAND_WSTATE, 1, "a task that is not suspended");
     ask(2, GRITGARLAND_TASK_EXIT, 0, 0, 0, GRITGARLAND_WRONG_PARAM, 1, "a context that names nothing");
     ask(GRITGARLAND_T, 0, 0, 0, 0, GRITGARLAND_WRONG_PARAM, 1, "service 0");
-    ask(GRITGARLAND_T, 24, 0, 0, 0, GRITGARLAND_WRONG_PARAM, 1, "service 24");
+    ask(GRITGARLAND_T, SERVICES + 1, 0, 0, 0, GRITGARLAND_WRONG_PARAM, 1, "service 33");
 
     ask(GRITGARLAND_T, GRITGARLAND_TASK_SLEEP, 65535, 0, 0, GRITGARLAND_PENDING, 0, "a sleep of 65,535");
     for (uint32_t i = 1; i < 65535; i++)
-        now = gritgarland_call(now, GRITGARLAND_I, GRITGARLAND_TICK_INT_PROCESSING, 0, 0, 0).state;
+        now = gritgarland_call(now, GRITGARLAND_I, GRITGARLAND_TICK_INT_PROCESSING, 0, 0, 0, 0).state;
     expect(now.tasks[1].remaining == 1, "65,535 is finite");
     ask(GRITGARLAND_I, GRITGARLAND_TICK_INT_PROCESSING, 0, 0, 0, GRITGARLAND_NO_ERR, 1, "and ends at tick 65,535");
 
+    the_others();
+    flags();
+    for (int service = 1; service <= SERVICES; service++)
+        expect(accepted[service], "a service that no call named");
+
     gritgarland_state broken = now;
+    broken.attributes[8] = 3;
+    expect(!gritgarland_is_sound(broken), "CLR without SINGLE is not sound");
+    broken = now;
     broken.tasks[1].wakeups = 2;
-    gritgarland_reply r = gritgarland_call(broken, GRITGARLAND_T, GRITGARLAND_TASK_EXIT, 0, 0, 0);
+    gritgarland_reply r = gritgarland_call(broken, GRITGARLAND_T, GRITGARLAND_TASK_EXIT, 0, 0, 0, 0);
     expect(!gritgarland_is_sound(broken), "two wakeups are not sound");
-    expect(r.code == GRITGARLAND_UNSOUND && r.running == 0, "an unsound state is refused");
+    expect(r.code == GRITGARLAND_UNSOUND && r.running == 0 && r.value == 0, "an unsound state is refused");
     expect(same(&r.state, &broken), "an unsound state comes back as it was");
-    r = gritgarland_call(broken, 7, 99, 0, 0, 0);
-    expect(r.code == GRITGARLAND_UNSOUND && r.running == 0, "before an unknown service");
+    r = gritgarland_call(broken, 7, 99, 0, 0, 0, 0);
+    expect(r.code == GRITGARLAND_UNSOUND && r.running == 0 && r.value == 0, "before an unknown service");
     memset(&broken, 255, sizeof broken);
-    r = gritgarland_call(broken, GRITGARLAND_I, GRITGARLAND_TICK_INT_PROCESSING, 0, 0, 0);
+    r = gritgarland_call(broken, GRITGARLAND_I, GRITGARLAND_TICK_INT_PROCESSING, 0, 0, 0, 0);
     expect(r.code == GRITGARLAND_UNSOUND && same(&r.state, &broken), "garbage is refused");
 
     if (failures == 0)

@@ -44,10 +44,16 @@ static size_t put(const char *text)
 }
 
 #define HEADER "ctx,service,a,b,c\n"
+#define HEADER_SIX "ctx,service,a,b,c,d\n"
 
 static const char worked[] = HEADER "T,tn_sem_create,1,0,1\nT,tn_task_create,1,5,1\nT,tn_task_create,2,5,1\nT,tn_sem_acquire,1,2,\n"
     "I,tn_tick_int_processing,,,\nI,tn_sem_isignal,1,,\nT,tn_sem_signal,1,,\nT,tn_sem_signal,1,,\nT,tn_task_exit,,,\nT,tn_sem_polling,1,,\n";
 static const char answer[] = "n,code,running\r\n1,0,0\r\n2,0,1\r\n3,0,1\r\n4,1,2\r\n5,0,2\r\n6,0,2\r\n7,0,2\r\n8,-1,2\r\n9,0,1\r\n10,0,1\r\n";
+
+/* a hold until a key press: the endless wait on a flag that an interrupt sets */
+static const char held[] = HEADER_SIX "T,tn_event_create,1,3,0,\nT,tn_task_create,1,2,1,\nT,tn_event_wait,1,1,0,4294967295\n"
+    "I,tn_tick_int_processing,,,,\nI,tn_event_iset,1,1,,\nT,tn_event_set,1,6,,\nT,tn_event_clear,1,2,,\nT,tn_event_wait_polling,1,4,0,\nI,tn_event_iwait,1,4,0,\n";
+static const char held_answer[] = "n,code,running\r\n1,0,0\r\n2,0,1\r\n3,1,0\r\n4,0,0\r\n5,0,1\r\n6,0,1\r\n7,0,1\r\n8,0,1\r\n9,-4,1\r\n";
 
 static void unreadable(const char *line, const char *what)
 {
@@ -87,6 +93,14 @@ int main(void)
     unreadable("T,tn_task_sleep,1,\n", "four fields");
     unreadable("T,tn_task_sleep,1,,,\n", "six fields");
     unreadable("T,tn_task_sleep,1 ,,\n", "a space");
+
+    run(put(held), 4096, sizeof held_answer - 1, held_answer, "a hold as a flag wait");
+    run(put("ctx,service,a,b,c,d"), 4096, 16, "n,code,running\r\n", "a header of six fields");
+    run(put(HEADER_SIX "T,tn_task_exit,,,,\n"), 4096, 24, "n,code,running\r\n1,-2,0\r\n", "a line of six fields");
+    run(put(HEADER_SIX "T,tn_task_exit,,,\n"), 4096, -12, NULL, "five fields under the header of six");
+    run(put(HEADER_SIX "T,tn_event_wait,1,1,0,\n"), 4096, -12, NULL, "a flag wait without its timeout");
+    unreadable("T,tn_event_wait,1,1,0\n", "a flag wait under the header of five fields");
+    unreadable("T,tn_event_wait,1,1,0,5\n", "and with its sixth field");
 
     /* the longest file: the last line is cut to fill it */
     n = put(HEADER);

@@ -1,5 +1,5 @@
 /* The library behind a pipe, for tests on a machine that can't link it: reads requests on standard input and answers each.
-   'C': a state and five numbers; 'S': a state; 'L': two lengths, a file and a buffer. Numbers are little-endian. */
+   'C': a state and six numbers; 'S': a state; 'L': two lengths, a file and a buffer. Numbers are little-endian. */
 #include "gritgarland.h"
 #include "../c/libc.h"
 
@@ -39,10 +39,10 @@ static int give(const void *from, size_t n)
 static int call(void)
 {
     gritgarland_state state;
-    uint32_t n[5];
+    uint32_t n[6];
     if (!take(&state, sizeof state) || !take(n, sizeof n))
         return 0;
-    gritgarland_reply r = gritgarland_call(state, n[0], n[1], n[2], n[3], n[4]);
+    gritgarland_reply r = gritgarland_call(state, n[0], n[1], n[2], n[3], n[4], n[5]);
     return give(&r, sizeof r);
 }
 

@@ -1,5 +1,5 @@
 //! Repeatable random calls, rich in waits, suspended waiters, timeouts, restarts, slices and numbers at the limits.
-//! A run draws most of its numbers from a small world of its own, so that its tasks and semaphores meet often.
+//! A run draws most of its numbers from a small world of its own, so that its tasks, semaphores and flags meet often.
 
 use crate::services::*;
 
@@ -42,12 +42,12 @@ impl Rng {
 
 /// Numbers at and past every limit.
 #[rustfmt::skip]
-pub const LIMITS: [u32; 22] = [
-    0, 1, 2, 11, 12, 13, 23, 24, 25, 29, 30, 31, 255, 256, 257, 999, 1000, 1001, 65_535, 65_536, u32::MAX - 1, u32::MAX,
+pub const LIMITS: [u32; 27] = [
+    0, 1, 2, 3, 4, 7, 8, 9, 11, 12, 13, 23, 24, 25, 29, 30, 31, 255, 256, 257, 999, 1000, 1001, 65_535, 65_536, u32::MAX - 1, u32::MAX,
 ];
 
 /// How often each service is asked for, beside each other.
-const WEIGHTS: [(u32, usize); 23] = [
+const WEIGHTS: [(u32, usize); LAST as usize] = [
     (CREATE, 6),
     (DELETE, 3),
     (ACTIVATE, 7),
@@ -71,14 +71,25 @@ const WEIGHTS: [(u32, usize); 23] = [
     (ACQUIRE, 16),
     (POLLING, 2),
     (IPOLLING, 2),
+    (EVENT_CREATE, 3),
+    (EVENT_DELETE, 2),
+    (SET, 6),
+    (ISET, 7),
+    (CLEAR, 6),
+    (ICLEAR, 6),
+    (EVENT_WAIT, 18),
+    (EVENT_POLLING, 4),
+    (EVENT_IWAIT, 4),
 ];
 
-/// The small world of one run: which tasks, levels and semaphores it mostly names, and how it behaves.
+/// The small world of one run: which tasks, levels, semaphores and flags it mostly names, and how it behaves.
 pub struct World {
     pub rng: Rng,
     tasks: Vec<u32>,
     levels: Vec<u32>,
     semaphores: Vec<u32>,
+    flags: Vec<u32>,
+    narrow: bool, // no call takes four numbers
     longest_slice: u32,
     wild: usize,    // percent of calls with any numbers at all
     ticks: usize,   // percent of calls that are ticks beyond their weight
@@ -96,12 +107,14 @@ impl World {
         let most_levels = rng.pick(&[1, 4, 4]);
         let levels = some(&mut rng, 30, most_levels);
         let semaphores = some(&mut rng, 12, 3);
+        let flags = some(&mut rng, 8, 2);
+        let narrow = rng.percent(25);
         let longest_slice = rng.pick(&[1, 2, 3, 5, 1000]);
         let wild = rng.pick(&[1, 3, 3, 10, 40]);
         let ticks = rng.pick(&[0, 5, 20, 50]);
         let patient = rng.pick(&[10, 10, 40, 80]);
         let eager = rng.pick(&[50, 80, 100]);
-        World { rng, tasks, levels, semaphores, longest_slice, wild, ticks, patient, crowd, eager }
+        World { rng, tasks, levels, semaphores, flags, narrow, longest_slice, wild, ticks, patient, crowd, eager }
     }
 
     /// The calls of a whole run: most of its objects are made first, then anything may happen.
@@ -112,17 +125,27 @@ impl World {
                 calls.push(self.sem_create(s));
             }
         }
+        for f in self.flags.clone() {
+            if self.rng.percent(90) {
+                calls.push(self.event_create(f));
+            }
+        }
         for p in self.levels.clone() {
             if self.rng.percent(60) {
                 calls.push(Call::of(TSLICE, p, self.rng.from(0, self.longest_slice), 0));
             }
         }
+        let flagged = !self.narrow && self.rng.percent(50);
         for t in self.tasks.clone() {
             if self.rng.percent(97) {
                 calls.push(self.task_create(t));
             }
             if self.rng.percent(self.crowd) {
-                calls.push(Call::of(ACQUIRE, self.semaphores[0], u32::MAX, 0));
+                calls.push(if flagged {
+                    Call::wait(self.flags[0], self.rng.from(4, 7), 1, u32::MAX)
+                } else {
+                    Call::of(ACQUIRE, self.semaphores[0], u32::MAX, 0)
+                });
             }
         }
         calls.truncate(length);
@@ -146,10 +169,11 @@ impl World {
         }
         if self.rng.percent(2) {
             let limit = self.rng.pick(&LIMITS);
-            match self.rng.below(3) {
+            match self.rng.below(4) {
                 0 => call.a = limit,
                 1 => call.b = limit,
-                _ => call.c = limit,
+                2 => call.c = limit,
+                _ => call.d = limit,
             }
         }
         call
@@ -160,11 +184,19 @@ impl World {
         let mut at = self.rng.below(all);
         for (service, weight) in WEIGHTS {
             if at < weight {
-                return service;
+                return self.within_width(service);
             }
             at -= weight;
         }
         TICK
+    }
+
+    fn within_width(&self, service: u32) -> u32 {
+        if self.narrow && service == EVENT_WAIT {
+            EVENT_POLLING
+        } else {
+            service
+        }
     }
 
     fn fitting_call(&mut self, service: u32) -> Call {
@@ -185,6 +217,14 @@ impl World {
             TSLICE => Call::of(TSLICE, self.level(), self.rng.from(0, self.longest_slice), 0),
             EXIT | TICK => Call::of(service, 0, 0, 0),
             ACQUIRE => Call::of(ACQUIRE, self.semaphore(), self.timeout(), 0),
+            EVENT_CREATE => {
+                let f = self.flag();
+                self.event_create(f)
+            }
+            EVENT_DELETE => Call::of(EVENT_DELETE, self.flag(), 0, 0),
+            SET | ISET | CLEAR | ICLEAR => Call::of(service, self.flag(), self.pattern(), 0),
+            EVENT_WAIT => Call::wait(self.flag(), self.pattern(), self.mode(), self.timeout()),
+            EVENT_POLLING | EVENT_IWAIT => Call::of(service, self.flag(), self.pattern(), self.mode()),
             SEM_DELETE | SIGNAL | ISIGNAL | POLLING | IPOLLING => Call::of(service, self.semaphore(), 0, 0),
             _ => Call::of(service, self.task(), 0, 0),
         }
@@ -192,12 +232,14 @@ impl World {
 
     /// Any service in any context with any numbers near a limit.
     fn wild_call(&mut self) -> Call {
+        let service = self.rng.from(CREATE, LAST);
         Call {
             context: self.rng.from(T, I),
-            service: self.rng.from(CREATE, IPOLLING),
+            service: self.within_width(service),
             a: self.wild_number(),
             b: self.wild_number(),
             c: self.wild_number(),
+            d: self.wild_number(),
         }
     }
 
@@ -222,6 +264,28 @@ impl World {
             _ => 0,
         };
         Call::of(SEM_CREATE, semaphore, start, maximum)
+    }
+
+    fn event_create(&mut self, flag: u32) -> Call {
+        let attributes = self.rng.pick(&[0, 0, 1, 3]);
+        let bits = if self.rng.percent(60) { 0 } else { self.pattern() };
+        Call::of(EVENT_CREATE, flag, attributes, bits)
+    }
+
+    /// A few low bits, so that waits are met and missed; now and then all bits or the highest.
+    fn pattern(&mut self) -> u32 {
+        match self.rng.below(12) {
+            0 => self.rng.pick(&[0, u32::MAX, 1 << 31, 6 << 29]),
+            _ => self.rng.from(1, 7),
+        }
+    }
+
+    fn mode(&mut self) -> u32 {
+        self.rng.from(0, 1)
+    }
+
+    fn flag(&mut self) -> u32 {
+        self.rng.pick(&self.flags)
     }
 
     fn task(&mut self) -> u32 {

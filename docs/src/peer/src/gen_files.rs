@@ -14,19 +14,20 @@ pub struct BadList {
 
 /// A list of these calls with one damaged line; what follows it may be anything.
 pub fn bad_list(rng: &mut Rng, calls: &[Call]) -> BadList {
-    let mut lines = lines(calls);
+    let width = width(rng, calls);
+    let mut lines = lines(calls, width);
     let place = rng.below(lines.len());
     let damage = if place == 0 {
         lines[0] = rng.pick(&BAD_HEADERS).to_vec();
         "header"
     } else {
-        let (name, line) = damaged_line(rng, &calls[place - 1]);
+        let (name, line) = damaged_line(rng, &calls[place - 1], width);
         lines[place] = line;
         name
     };
     if place + 1 < lines.len() && rng.percent(30) {
         let later = place + 1 + rng.below(lines.len() - place - 1);
-        lines[later] = damaged_line(rng, &calls[later - 1]).1;
+        lines[later] = damaged_line(rng, &calls[later - 1], width).1;
     }
     BadList { file: join(rng, &lines), line: place + 1, damage }
 }
@@ -90,21 +91,24 @@ fn swap_line_end(rng: &mut Rng, file: &mut Vec<u8>) {
 
 /// A readable list of exactly this length, at least 400 bytes: random calls, then exits that fill the rest.
 pub fn exact(seed: u64, length: usize) -> Vec<u8> {
-    const TAIL: usize = 306; // from here on every length is made of 18s and 19s
     let mut world = World::new(seed);
-    let mut file = [HEADER, b"\n"].concat();
-    for call in world.run(length / 17) {
-        let line = line(&call);
-        if file.len() + line.len() + 1 + TAIL > length {
+    let calls = world.run(length / 17);
+    let width = width(&mut world.rng, &calls);
+    let exit = line(&Call::of(EXIT, 0, 0, 0), width);
+    let short = exit.len() + 1; // with LF; with CRLF it is one longer
+    let tail = short * (short - 1); // from here on every length is made of the two
+    let mut file = [header(width), b"\n"].concat();
+    for call in calls {
+        let line = line(&call, width);
+        if file.len() + line.len() + 1 + tail > length {
             break;
         }
         file.extend_from_slice(&line);
         file.push(b'\n');
     }
-    let exit = line(&Call::of(EXIT, 0, 0, 0));
     let left = length - file.len();
-    let long = left % 18; // so many of the lines end in CRLF
-    for place in 0..(left - long) / 18 {
+    let long = left % short; // so many of the lines end in CRLF
+    for place in 0..(left - long) / short {
         file.extend_from_slice(&exit);
         file.extend_from_slice(if place < long { b"\r\n" } else { b"\n" });
     }

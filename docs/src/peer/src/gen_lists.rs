@@ -4,17 +4,37 @@
 use crate::gen::Rng;
 use crate::services::{Call, EXIT, SERVICES};
 
-pub const HEADER: &[u8] = b"ctx,service,a,b,c";
+/// The header of a list with three or four numbers on every line.
+pub fn header(width: usize) -> &'static [u8] {
+    if width == 3 {
+        b"ctx,service,a,b,c"
+    } else {
+        b"ctx,service,a,b,c,d"
+    }
+}
+
+/// The width of a list of these calls: four numbers where a call takes four, else either.
+pub fn width(rng: &mut Rng, calls: &[Call]) -> usize {
+    if calls.iter().any(|call| call.numbers() == 4) {
+        4
+    } else {
+        rng.pick(&[3, 4])
+    }
+}
 
 /// First lines that are no header; with any line end, or none, the answer is -11.
-pub const BAD_HEADERS: [&[u8]; 17] = [
+pub const BAD_HEADERS: [&[u8]; 21] = [
     b"",
     b"\r",
     b"ctx",
     b"ctx,service,a,b",
     b"ctx,service,a,b,",
     b"ctx,service,a,b,c,",
-    b"ctx,service,a,b,c,d",
+    b"ctx,service,a,b,c,e",
+    b"ctx,service,a,b,c,D",
+    b"ctx,service,a,b,c,d,",
+    b"ctx,service,a,b,c,d,e",
+    b"ctx,service,a,b,c,d ",
     b"ctx,service,a,b,C",
     b"CTX,service,a,b,c",
     b" ctx,service,a,b,c",
@@ -27,12 +47,16 @@ pub const BAD_HEADERS: [&[u8]; 17] = [
     b"T,tn_task_exit,,,",
 ];
 
-const UNKNOWN_NAMES: [&str; 16] = [
+const UNKNOWN_NAMES: [&str; 20] = [
     "",
     " ",
     "tn_fmem_get",
     "tn_task_isuspend",
-    "tn_event_set",
+    "tn_event_sett",
+    "tn_event_isset",
+    "tn_event_ichar",
+    "tn_event_await",
+    "tn_event_wait_pollin",
     "tn_mutex_lock",
     "tn_queue_send",
     "tn_start_system",
@@ -57,74 +81,85 @@ const TOO_LARGE: [&str; 8] = [
     "340282366920938463463374607431768211457",
 ];
 
-/// A damage makes of a call a line that can't be read, or nothing if the call has no place for it.
-type Damage = fn(&mut Rng, &Call) -> Option<Vec<u8>>;
+/// A damage makes of a call, in a list of this width, a line that can't be read, or nothing if the call has no place for it.
+type Damage = fn(&mut Rng, &Call, usize) -> Option<Vec<u8>>;
 
-pub const LINE_DAMAGES: [(&str, Damage); 20] = [
-    ("empty line", |_, _| Some(Vec::new())),
-    ("CR alone", |_, _| Some(b"\r".to_vec())),
-    ("CR inside", |rng, call| inserted(rng, call, b"\r")),
-    ("CR before the line end", |_, call| Some([&line(call), &b"\r\r"[..]].concat())),
-    ("LF inside", |_, call| Some(call.to_string().replacen("tn_", "tn\n_", 1).into_bytes())),
-    ("no such context", |rng, call| {
-        with_field(call, 0, rng.pick(&["t", "i", "", " T", "T ", "TT", "TI", "X", "\"T\"", "0"]))
+pub const LINE_DAMAGES: [(&str, Damage); 22] = [
+    ("empty line", |_, _, _| Some(Vec::new())),
+    ("CR alone", |_, _, _| Some(b"\r".to_vec())),
+    ("CR inside", |rng, call, width| inserted(rng, call, width, b"\r")),
+    ("CR before the line end", |_, call, width| Some([&line(call, width), &b"\r\r"[..]].concat())),
+    ("LF inside", |_, call, width| Some(call.line(width).replacen("tn_", "tn\n_", 1).into_bytes())),
+    ("no such context", |rng, call, width| {
+        with_field(call, width, 0, rng.pick(&["t", "i", "", " T", "T ", "TT", "TI", "X", "\"T\"", "0"]))
     }),
-    ("no such service", |rng, call| with_field(call, 1, rng.pick(&UNKNOWN_NAMES))),
+    ("no such service", |rng, call, width| with_field(call, width, 1, rng.pick(&UNKNOWN_NAMES))),
     ("one letter of the service", one_letter),
-    ("used field blank", |rng, call| changed_number(rng, call, |_, _| String::new())),
+    ("used field blank", |rng, call, width| changed_number(rng, call, width, |_, _| String::new())),
     ("unused field filled", unused_filled),
-    ("too few fields", |_, call| Some(fields(call)[..4].join(",").into_bytes())),
-    ("too many fields", |rng, call| Some(format!("{call},{}", rng.pick(&["", "0", "1"])).into_bytes())),
-    ("another separator", |rng, call| Some(fields(call).join(rng.pick(&[";", "\t", " ", ", "])).into_bytes())),
-    ("needless zero", |rng, call| changed_number(rng, call, |_, n| format!("0{n}"))),
-    ("sign", |rng, call| changed_number(rng, call, |rng, n| format!("{}{n}", rng.pick(&["+", "-"])))),
-    ("number too large", |rng, call| changed_number(rng, call, |rng, _| rng.pick(&TOO_LARGE).to_string())),
-    ("not a digit", |rng, call| changed_number(rng, call, not_a_digit)),
-    ("quotes", |rng, call| changed_number(rng, call, |_, n| format!("\"{n}\""))),
-    ("foreign byte", |rng, call| {
-        let byte = rng.pick(&[0, 9, 11, 12, 26, 34, 127, 128, 160, 0xef, 255]);
-        inserted(rng, call, &[byte])
+    ("too few fields", |_, call, width| Some(fields(call, width)[..width + 1].join(",").into_bytes())),
+    ("too many fields", |rng, call, width| {
+        Some(format!("{},{}", call.line(width), rng.pick(&["", "0", "1"])).into_bytes())
     }),
-    ("exit with a number", |rng, _| with_field(&Call::of(EXIT, 0, 0, 0), 2, rng.pick(&["0", "1"]))),
+    ("another separator", |rng, call, width| {
+        Some(fields(call, width).join(rng.pick(&[";", "\t", " ", ", "])).into_bytes())
+    }),
+    ("needless zero", |rng, call, width| changed_number(rng, call, width, |_, n| format!("0{n}"))),
+    ("sign", |rng, call, width| changed_number(rng, call, width, |rng, n| format!("{}{n}", rng.pick(&["+", "-"])))),
+    ("number too large", |rng, call, width| {
+        changed_number(rng, call, width, |rng, _| rng.pick(&TOO_LARGE).to_string())
+    }),
+    ("not a digit", |rng, call, width| changed_number(rng, call, width, not_a_digit)),
+    ("quotes", |rng, call, width| changed_number(rng, call, width, |_, n| format!("\"{n}\""))),
+    ("foreign byte", |rng, call, width| {
+        let byte = rng.pick(&[0, 9, 11, 12, 26, 34, 127, 128, 160, 0xef, 255]);
+        inserted(rng, call, width, &[byte])
+    }),
+    ("exit with a number", |rng, _, width| with_field(&Call::of(EXIT, 0, 0, 0), width, 2, rng.pick(&["0", "1"]))),
+    ("a wait under the old header", |rng, _, width| {
+        let numbers = rng.pick(&[3, 4]);
+        (width == 3).then(|| line(&Call::wait(1, 2, 0, 5), numbers))
+    }),
+    ("the other header's width", |_, call, width| (call.numbers() < 4).then(|| line(call, 7 - width))),
 ];
 
-pub fn line(call: &Call) -> Vec<u8> {
-    call.to_string().into_bytes()
+pub fn line(call: &Call, width: usize) -> Vec<u8> {
+    call.line(width).into_bytes()
 }
 
-fn fields(call: &Call) -> Vec<String> {
-    call.to_string().split(',').map(str::to_string).collect()
+fn fields(call: &Call, width: usize) -> Vec<String> {
+    call.line(width).split(',').map(str::to_string).collect()
 }
 
-fn with_field(call: &Call, place: usize, text: &str) -> Option<Vec<u8>> {
-    let mut fields = fields(call);
+fn with_field(call: &Call, width: usize, place: usize, text: &str) -> Option<Vec<u8>> {
+    let mut fields = fields(call, width);
     fields[place] = text.to_string();
     Some(fields.join(",").into_bytes())
 }
 
 /// One of the numbers that the call uses, put otherwise.
-fn changed_number(rng: &mut Rng, call: &Call, change: fn(&mut Rng, &str) -> String) -> Option<Vec<u8>> {
-    let used = SERVICES[call.service as usize].numbers;
+fn changed_number(rng: &mut Rng, call: &Call, width: usize, change: fn(&mut Rng, &str) -> String) -> Option<Vec<u8>> {
+    let used = call.numbers();
     if used == 0 {
         return None;
     }
     let place = 2 + rng.below(used);
-    let text = change(rng, &fields(call)[place]);
-    with_field(call, place, &text)
+    let text = change(rng, &fields(call, width)[place]);
+    with_field(call, width, place, &text)
 }
 
-fn unused_filled(rng: &mut Rng, call: &Call) -> Option<Vec<u8>> {
-    let used = SERVICES[call.service as usize].numbers;
-    if used == 3 {
+fn unused_filled(rng: &mut Rng, call: &Call, width: usize) -> Option<Vec<u8>> {
+    let used = call.numbers();
+    if used == width {
         return None;
     }
-    let place = 2 + used + rng.below(3 - used);
-    with_field(call, place, rng.pick(&["0", "1", " ", "\"\"", "forever"]))
+    let place = 2 + used + rng.below(width - used);
+    with_field(call, width, place, rng.pick(&["0", "1", " ", "\"\"", "forever"]))
 }
 
 /// No service has a Z.
-fn one_letter(rng: &mut Rng, call: &Call) -> Option<Vec<u8>> {
-    let mut line = line(call);
+fn one_letter(rng: &mut Rng, call: &Call, width: usize) -> Option<Vec<u8>> {
+    let mut line = line(call, width);
     let name = SERVICES[call.service as usize].name;
     line[2 + rng.below(name.len())] = b'Z';
     Some(line)
@@ -138,17 +173,17 @@ fn not_a_digit(rng: &mut Rng, number: &str) -> String {
 }
 
 /// The bytes stand before some byte of the line, so never at its end.
-fn inserted(rng: &mut Rng, call: &Call, bytes: &[u8]) -> Option<Vec<u8>> {
-    let line = line(call);
+fn inserted(rng: &mut Rng, call: &Call, width: usize, bytes: &[u8]) -> Option<Vec<u8>> {
+    let line = line(call, width);
     let place = rng.below(line.len());
     Some([&line[..place], bytes, &line[place..]].concat())
 }
 
 /// One damage that the call has a place for: its name and the line.
-pub fn damaged_line(rng: &mut Rng, call: &Call) -> (&'static str, Vec<u8>) {
+pub fn damaged_line(rng: &mut Rng, call: &Call, width: usize) -> (&'static str, Vec<u8>) {
     loop {
         let (name, damage) = rng.pick(&LINE_DAMAGES);
-        if let Some(line) = damage(rng, call) {
+        if let Some(line) = damage(rng, call, width) {
             return (name, line);
         }
     }
@@ -173,9 +208,10 @@ pub fn join(rng: &mut Rng, lines: &[Vec<u8>]) -> Vec<u8> {
 
 /// A readable list of these calls.
 pub fn readable(rng: &mut Rng, calls: &[Call]) -> Vec<u8> {
-    join(rng, &lines(calls))
+    let width = width(rng, calls);
+    join(rng, &lines(calls, width))
 }
 
-pub fn lines(calls: &[Call]) -> Vec<Vec<u8>> {
-    std::iter::once(HEADER.to_vec()).chain(calls.iter().map(line)).collect()
+pub fn lines(calls: &[Call], width: usize) -> Vec<Vec<u8>> {
+    std::iter::once(header(width).to_vec()).chain(calls.iter().map(|call| line(call, width))).collect()
 }

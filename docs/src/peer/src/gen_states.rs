@@ -11,7 +11,7 @@ use crate::slots;
 pub fn after(calls: &[Call]) -> Kernel {
     let mut kernel = Kernel::fresh();
     for call in calls {
-        kernel.call(call.context, call.service, call.a, call.b, call.c);
+        kernel.call(call);
     }
     kernel
 }

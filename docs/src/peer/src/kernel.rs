@@ -7,6 +7,7 @@ use crate::services::*;
 pub const TASKS: u32 = 24;
 pub const LEVELS: u32 = 30;
 pub const SEMAPHORES: u32 = 12;
+pub const FLAGS: u32 = 8;
 pub const LARGEST_MAXIMUM: u32 = 65_535;
 pub const LARGEST_SLICE: u32 = 1_000;
 /// The timeout that never ends.
@@ -19,6 +20,7 @@ pub const WCONTEXT: i32 = -2;
 pub const WSTATE: i32 = -3;
 pub const TIMEOUT: i32 = -4;
 pub const WRONG_PARAM: i32 = -5;
+pub const ILUSE: i32 = -8;
 pub const NOEXS: i32 = -9;
 pub const DLT: i32 = -10;
 pub const RELEASED: i32 = -11;
@@ -28,10 +30,37 @@ pub const UNSOUND: i32 = -12;
 pub type Outcome = Result<i32, i32>;
 
 #[derive(Clone, Copy, PartialEq, Eq, Debug)]
+pub struct Answer {
+    pub code: i32,
+    pub running: u32,
+    /// The bits that a wait or poll of a flag got at once, else 0.
+    pub value: u32,
+}
+
+#[derive(Clone, Copy, PartialEq, Eq, Debug)]
 pub enum Wait {
     Nothing,
     Sleep,
     Semaphore(u8),
+    /// The flag, and what is asked of it.
+    Flag(u8, Asked),
+}
+
+/// The bits that a wait or poll asks for: all of them, or any.
+#[derive(Clone, Copy, PartialEq, Eq, Debug)]
+pub struct Asked {
+    pub pattern: u32,
+    pub all: bool,
+}
+
+impl Asked {
+    pub fn is_met_by(&self, bits: u32) -> bool {
+        if self.all {
+            bits | self.pattern == bits
+        } else {
+            (0..32).any(|bit| (bits >> bit) & (self.pattern >> bit) & 1 == 1)
+        }
+    }
 }
 
 #[derive(Clone, Copy, PartialEq, Eq, Debug)]
@@ -47,6 +76,8 @@ pub struct Task {
     pub activations: u8,
     pub wait_code: i8,
     pub remaining: u32,
+    /// The bits that the last wait handed over.
+    pub handed: u32,
 }
 
 impl Task {
@@ -63,6 +94,7 @@ impl Task {
             activations: 0,
             wait_code: 0,
             remaining: 0,
+            handed: 0,
         }
     }
 
@@ -94,12 +126,28 @@ impl Semaphore {
     pub const NONE: Semaphore = Semaphore { queue: Queue::EMPTY, count: 0, maximum: 0 };
 }
 
+#[derive(Clone, Copy, PartialEq, Eq, Debug)]
+pub struct Flag {
+    pub queue: Queue,
+    pub created: bool,
+    /// One waiter at most.
+    pub single: bool,
+    /// The bits are zeroed whenever a wait or poll is met.
+    pub clr: bool,
+    pub bits: u32,
+}
+
+impl Flag {
+    pub const NONE: Flag = Flag { queue: Queue::EMPTY, created: false, single: false, clr: false, bits: 0 };
+}
+
 /// Place 0 of every table is unused.
 #[derive(Clone, PartialEq, Eq, Debug)]
 pub struct Kernel {
     pub tasks: [Task; TASKS as usize + 1],
     pub levels: [Level; LEVELS as usize + 1],
     pub semaphores: [Semaphore; SEMAPHORES as usize + 1],
+    pub flags: [Flag; FLAGS as usize + 1],
     pub time: u32,
     filled: u32, // bit p: level p lists a task
     timed: u32,  // bit t: task t waits with a finite timeout
@@ -112,6 +160,7 @@ impl Kernel {
             tasks: [Task::NONE; TASKS as usize + 1],
             levels: [Level { queue: Queue::EMPTY, slice: 0, charge: 0 }; LEVELS as usize + 1],
             semaphores: [Semaphore::NONE; SEMAPHORES as usize + 1],
+            flags: [Flag::NONE; FLAGS as usize + 1],
             time: 0,
             filled: 0,
             timed: 0,
@@ -127,17 +176,27 @@ impl Kernel {
         }
     }
 
-    /// One call: its code, and the task that runs after it.
-    pub fn call(&mut self, context: u32, service: u32, a: u32, b: u32, c: u32) -> (i32, u32) {
-        let (Ok(code) | Err(code)) = self.serve(context, service, a, b, c);
-        (code, self.running() as u32)
+    /// One call: its code, the task that runs after it, and the bits that it got at once.
+    pub fn call(&mut self, call: &Call) -> Answer {
+        let (code, value) = match self.serve(call) {
+            Ok((code, value)) => (code, value),
+            Err(code) => (code, 0),
+        };
+        Answer { code, running: self.running() as u32, value }
     }
 
-    fn serve(&mut self, context: u32, service: u32, a: u32, b: u32, c: u32) -> Outcome {
+    /// The code of an accepted call, and its bits; or the code of the refusal.
+    fn serve(&mut self, call: &Call) -> Result<(i32, u32), i32> {
+        let Call { context, service, a, b, c, d } = *call;
         in_range(context, T, I)?;
-        in_range(service, CREATE, IPOLLING)?;
+        in_range(service, CREATE, LAST)?;
         let here = context == SERVICES[service as usize].context;
         match service {
+            EVENT_WAIT => return self.event_wait(here, a, b, c, d),
+            EVENT_POLLING | EVENT_IWAIT => return self.event_poll(here, a, b, c),
+            _ => {}
+        }
+        let code = match service {
             CREATE => self.task_create(here, a, b, c),
             DELETE => self.task_delete(here, a),
             ACTIVATE | IACTIVATE => self.task_activate(here, a),
@@ -155,8 +214,13 @@ impl Kernel {
             SEM_DELETE => self.sem_delete(here, a),
             SIGNAL | ISIGNAL => self.sem_signal(here, a),
             ACQUIRE => self.sem_acquire(here, a, b),
-            _ => self.sem_polling(here, a), // POLLING, IPOLLING
-        }
+            POLLING | IPOLLING => self.sem_polling(here, a),
+            EVENT_CREATE => self.event_create(here, a, b, c),
+            EVENT_DELETE => self.event_delete(here, a),
+            SET | ISET => self.event_set(here, a, b),
+            _ => self.event_clear(here, a, b), // CLEAR, ICLEAR
+        }?;
+        Ok((code, 0))
     }
 
     /// The running task, for the calls that start-up code may not make.
@@ -192,12 +256,15 @@ impl Kernel {
     /// A runnable task begins to wait.
     pub(crate) fn begin_wait(&mut self, t: usize, wait: Wait, timeout: u32) {
         self.leave_level(t);
-        if let Wait::Semaphore(s) = wait {
-            self.semaphores[s as usize].queue.join(t);
+        match wait {
+            Wait::Semaphore(s) => self.semaphores[s as usize].queue.join(t),
+            Wait::Flag(f, _) => self.flags[f as usize].queue.join(t),
+            Wait::Nothing | Wait::Sleep => {}
         }
         let task = &mut self.tasks[t];
         task.wait = wait;
         task.wait_code = 0;
+        task.handed = 0;
         task.remaining = timeout;
         if timeout != FOREVER {
             self.timed |= 1 << t;
@@ -207,8 +274,10 @@ impl Kernel {
     /// A waiting task waits no more; it stands in no level yet.
     fn leave_wait(&mut self, t: usize) {
         let task = &mut self.tasks[t];
-        if let Wait::Semaphore(s) = task.wait {
-            self.semaphores[s as usize].queue.leave(t);
+        match task.wait {
+            Wait::Semaphore(s) => self.semaphores[s as usize].queue.leave(t),
+            Wait::Flag(f, _) => self.flags[f as usize].queue.leave(t),
+            Wait::Nothing | Wait::Sleep => {}
         }
         task.wait = Wait::Nothing;
         task.remaining = 0;

@@ -1,7 +1,7 @@
 //! The byte layout of the library's State, field by field, and the way to it and back from the peer's own state.
 //! `call` is the library's by-value call in the peer's terms: the soundness test first, then the call on the peer's state.
 
-use crate::kernel::{Kernel, Level, Semaphore, Task as Own, Wait, UNSOUND};
+use crate::kernel::{Asked, Flag, Kernel, Level, Semaphore, Task as Own, Wait, SEMAPHORES, UNSOUND};
 use crate::queue::{Queue, PLACES};
 use crate::services::Call;
 use crate::sound::is_sound;
@@ -9,6 +9,9 @@ use crate::sound::is_sound;
 pub const TASK_PLACES: usize = 25;
 pub const LEVEL_PLACES: usize = 31;
 pub const SEMAPHORE_PLACES: usize = 13;
+pub const FLAG_PLACES: usize = 9;
+/// The rows of those who wait: none, those of the 12 semaphores, those of the 8 flags.
+pub const WAIT_ROWS: usize = 21;
 
 #[repr(C)]
 #[derive(Clone, Copy, PartialEq, Eq, Debug)]
@@ -22,7 +25,10 @@ pub struct Task {
     pub wakeups: u8,
     pub activations: u8,
     pub code: u8,
+    pub mode: u8,
     pub remaining: u32,
+    pub pattern: u32,
+    pub handed: u32,
 }
 
 #[repr(C)]
@@ -30,22 +36,26 @@ pub struct Task {
 pub struct State {
     pub tasks: [Task; TASK_PLACES],
     pub levels: [u8; LEVEL_PLACES * PLACES],
-    pub waits: [u8; SEMAPHORE_PLACES * PLACES],
+    pub waits: [u8; WAIT_ROWS * PLACES],
     pub slices: [u16; LEVEL_PLACES],
     pub charges: [u16; LEVEL_PLACES],
     pub counts: [u16; SEMAPHORE_PLACES],
     pub maxima: [u16; SEMAPHORE_PLACES],
+    /// The attributes plus 1; 0: not created.
+    pub attributes: [u8; FLAG_PLACES],
+    pub bits: [u32; FLAG_PLACES],
     pub time: u32,
 }
 
-const _: () = assert!(std::mem::size_of::<Task>() == 16);
-const _: () = assert!(std::mem::size_of::<State>() == 1636);
+const _: () = assert!(std::mem::size_of::<Task>() == 24);
+const _: () = assert!(std::mem::size_of::<State>() == 2076);
 
 #[repr(C)]
 #[derive(Clone, Copy, PartialEq, Eq, Debug)]
 pub struct Reply {
     pub code: i32,
     pub running: u32,
+    pub value: u32,
     pub state: State,
 }
 
@@ -60,7 +70,10 @@ impl Task {
         wakeups: 0,
         activations: 0,
         code: 0,
+        mode: 0,
         remaining: 0,
+        pattern: 0,
+        handed: 0,
     };
 }
 
@@ -68,11 +81,13 @@ impl State {
     pub const FRESH: State = State {
         tasks: [Task::NONE; TASK_PLACES],
         levels: [0; LEVEL_PLACES * PLACES],
-        waits: [0; SEMAPHORE_PLACES * PLACES],
+        waits: [0; WAIT_ROWS * PLACES],
         slices: [0; LEVEL_PLACES],
         charges: [0; LEVEL_PLACES],
         counts: [0; SEMAPHORE_PLACES],
         maxima: [0; SEMAPHORE_PLACES],
+        attributes: [0; FLAG_PLACES],
+        bits: [0; FLAG_PLACES],
         time: 0,
     };
 
@@ -80,19 +95,28 @@ impl State {
         &self.levels[level * PLACES..(level + 1) * PLACES]
     }
 
+    /// Those who wait on a semaphore; row 0 is nobody's.
     pub fn waiters(&self, semaphore: usize) -> &[u8] {
         &self.waits[semaphore * PLACES..(semaphore + 1) * PLACES]
     }
+
+    /// Those who wait on a flag, from 1.
+    pub fn flag_waiters(&self, flag: usize) -> &[u8] {
+        self.waiters(flag + SEMAPHORES as usize)
+    }
 }
+
+const NOTHING_ASKED: Asked = Asked { pattern: 0, all: false };
 
 /// The peer's state as the library writes it.
 pub fn store(kernel: &Kernel) -> State {
     let mut state = State::FRESH;
     for (to, from) in state.tasks.iter_mut().zip(&kernel.tasks) {
-        let (wait, object) = match from.wait {
-            Wait::Nothing => (0, 0),
-            Wait::Sleep => (1, 0),
-            Wait::Semaphore(s) => (2, s),
+        let (wait, object, asked) = match from.wait {
+            Wait::Nothing => (0, 0, NOTHING_ASKED),
+            Wait::Sleep => (1, 0, NOTHING_ASKED),
+            Wait::Semaphore(s) => (2, s, NOTHING_ASKED),
+            Wait::Flag(f, asked) => (3, f, asked),
         };
         *to = Task {
             base: from.base,
@@ -104,7 +128,10 @@ pub fn store(kernel: &Kernel) -> State {
             wakeups: from.wakeups,
             activations: from.activations,
             code: from.wait_code.unsigned_abs(),
+            mode: asked.all.into(),
             remaining: from.remaining,
+            pattern: asked.pattern,
+            handed: from.handed,
         };
     }
     for (p, level) in kernel.levels.iter().enumerate() {
@@ -118,6 +145,14 @@ pub fn store(kernel: &Kernel) -> State {
         state.waits[s * PLACES..][..tasks.len()].copy_from_slice(tasks);
         state.counts[s] = semaphore.count;
         state.maxima[s] = semaphore.maximum;
+    }
+    for (f, flag) in kernel.flags.iter().enumerate().skip(1) {
+        let tasks = flag.queue.as_slice();
+        state.waits[(f + SEMAPHORES as usize) * PLACES..][..tasks.len()].copy_from_slice(tasks);
+        if flag.created {
+            state.attributes[f] = 1 + u8::from(flag.single) + 2 * u8::from(flag.clr);
+        }
+        state.bits[f] = flag.bits;
     }
     state.time = kernel.time;
     state
@@ -138,12 +173,14 @@ pub fn load(state: &State) -> Option<Kernel> {
             wait: match from.wait {
                 0 => Wait::Nothing,
                 1 => Wait::Sleep,
-                _ => Wait::Semaphore(from.object),
+                2 => Wait::Semaphore(from.object),
+                _ => Wait::Flag(from.object, Asked { pattern: from.pattern, all: from.mode == 1 }),
             },
             wakeups: from.wakeups,
             activations: from.activations,
             wait_code: -(from.code as i8),
             remaining: from.remaining,
+            handed: from.handed,
         };
     }
     for (p, to) in kernel.levels.iter_mut().enumerate() {
@@ -151,6 +188,12 @@ pub fn load(state: &State) -> Option<Kernel> {
     }
     for (s, to) in kernel.semaphores.iter_mut().enumerate() {
         *to = Semaphore { queue: queue(state.waiters(s)), count: state.counts[s], maximum: state.maxima[s] };
+    }
+    for (f, to) in kernel.flags.iter_mut().enumerate().skip(1) {
+        let created = state.attributes[f] != 0;
+        let attributes = state.attributes[f].saturating_sub(1);
+        let (single, clr) = (attributes & 1 != 0, attributes & 2 != 0);
+        *to = Flag { queue: queue(state.flag_waiters(f)), created, single, clr, bits: state.bits[f] };
     }
     kernel.time = state.time;
     kernel.index();
@@ -168,10 +211,10 @@ fn queue(row: &[u8]) -> Queue {
 /// One call on a state by value: an unsound one comes back as it came, with code -12 and no task running.
 pub fn call(state: &State, call: Call) -> Reply {
     match load(state) {
-        None => Reply { code: UNSOUND, running: 0, state: *state },
+        None => Reply { code: UNSOUND, running: 0, value: 0, state: *state },
         Some(mut kernel) => {
-            let (code, running) = kernel.call(call.context, call.service, call.a, call.b, call.c);
-            Reply { code, running, state: store(&kernel) }
+            let answer = kernel.call(&call);
+            Reply { code: answer.code, running: answer.running, value: answer.value, state: store(&kernel) }
         }
     }
 }

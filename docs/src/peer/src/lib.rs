@@ -1,6 +1,7 @@
-//! An independent program of document 01's rules: the base's 23 services, the sound state and the lists of calls.
+//! An independent program of document 01's rules with the event flags of request P1: 32 services, the sound state and the lists of calls.
 //! It is written from the documents alone, so that the proved library can be tested and timed against it.
 
+mod flags;
 pub mod gen;
 pub mod gen_files;
 pub mod gen_lists;

@@ -1,11 +1,12 @@
 //! Lists of calls: the whole file is read into calls, the calls are run from the fresh state, and the answer is copied once.
 //! Whatever is refused is refused before the answer buffer is touched.
 
-use crate::kernel::Kernel;
+use crate::kernel::{Answer, Kernel};
 use crate::services::*;
 
 pub const LONGEST_FILE: usize = 65_536;
 const HEADER: &[u8] = b"ctx,service,a,b,c";
+const FOURTH: &[u8] = b",d"; // a header may go on so: then every line has a field more
 const ANSWER_HEADER: &[u8] = b"n,code,running\r\n";
 const SHORTEST_LINE: usize = 18; // T,tn_task_exit,,, and its line end
 const LONGEST_ROW: usize = 12; // 3639,-1,24 and its line end
@@ -31,10 +32,15 @@ pub fn run_list(file: &[u8], answer: &mut [u8]) -> i64 {
 
 /// The calls of a file, or the number of the first line that can't be read.
 pub fn read_list(file: &[u8]) -> Result<Vec<Call>, usize> {
-    let mut rest = file.strip_prefix(HEADER).and_then(after_line).ok_or(1_usize)?;
+    let rest = file.strip_prefix(HEADER).ok_or(1_usize)?;
+    let (width, rest) = match rest.strip_prefix(FOURTH) {
+        Some(rest) => (4, rest),
+        None => (3, rest),
+    };
+    let mut rest = after_line(rest).ok_or(1_usize)?;
     let mut calls = Vec::with_capacity(rest.len() / SHORTEST_LINE + 1);
     while !rest.is_empty() {
-        let (call, after) = read_line(rest).ok_or(calls.len() + 2)?;
+        let (call, after) = read_line(rest, width).ok_or(calls.len() + 2)?;
         calls.push(call);
         rest = after;
     }
@@ -50,8 +56,8 @@ fn after_line(rest: &[u8]) -> Option<&[u8]> {
     }
 }
 
-/// The call of the line that begins here, and what follows the line.
-fn read_line(line: &[u8]) -> Option<(Call, &[u8])> {
+/// The call of the line that begins here, and what follows the line. A line has fields for so many numbers.
+fn read_line(line: &[u8], width: usize) -> Option<(Call, &[u8])> {
     let (context, rest) = match line {
         [b'T', b',', rest @ ..] => (T, rest),
         [b'I', b',', rest @ ..] => (I, rest),
@@ -61,15 +67,18 @@ fn read_line(line: &[u8]) -> Option<(Call, &[u8])> {
     let (name, mut rest) = rest.split_at(end);
     let service = read_name(name)?;
     let used = SERVICES[service as usize].numbers;
-    let mut numbers = [0; 3];
-    for (place, number) in numbers.iter_mut().enumerate() {
+    if used > width {
+        return None;
+    }
+    let mut numbers = [0; 4];
+    for (place, number) in numbers[..width].iter_mut().enumerate() {
         rest = rest.strip_prefix(b",")?;
         if place < used {
             (*number, rest) = read_number(rest)?;
         } // else the field is blank: the next byte must end it
     }
-    let [a, b, c] = numbers;
-    Some((Call { context, service, a, b, c }, after_line(rest)?))
+    let [a, b, c, d] = numbers;
+    Some((Call { context, service, a, b, c, d }, after_line(rest)?))
 }
 
 /// The number of the service of this name.
@@ -98,6 +107,15 @@ fn read_name(name: &[u8]) -> Option<u32> {
         b"tn_sem_acquire" => ACQUIRE,
         b"tn_sem_polling" => POLLING,
         b"tn_sem_ipolling" => IPOLLING,
+        b"tn_event_create" => EVENT_CREATE,
+        b"tn_event_delete" => EVENT_DELETE,
+        b"tn_event_set" => SET,
+        b"tn_event_iset" => ISET,
+        b"tn_event_clear" => CLEAR,
+        b"tn_event_iclear" => ICLEAR,
+        b"tn_event_wait" => EVENT_WAIT,
+        b"tn_event_wait_polling" => EVENT_POLLING,
+        b"tn_event_iwait" => EVENT_IWAIT,
         _ => return None,
     })
 }
@@ -119,7 +137,7 @@ pub fn run_calls(calls: &[Call]) -> Vec<u8> {
     let mut rows = Vec::with_capacity(ANSWER_HEADER.len() + calls.len() * LONGEST_ROW);
     rows.extend_from_slice(ANSWER_HEADER);
     for (number, call) in (1..).zip(calls) {
-        let (code, running) = kernel.call(call.context, call.service, call.a, call.b, call.c);
+        let Answer { code, running, .. } = kernel.call(call);
         let mut row = Row { bytes: [0; 40], start: 40 };
         row.put(b'\n');
         row.put(b'\r');

@@ -1,4 +1,4 @@
-//! The 23 services of the base by number: name, how many numbers each takes, and the context it belongs to.
+//! The 32 services by number: those of the base, then those of event flags. Each has a name, so many numbers and a context.
 //! A call is one service with its context and numbers, and is shown as the line of a list that asks for it.
 
 use std::fmt;
@@ -31,6 +31,17 @@ pub const ISIGNAL: u32 = 20;
 pub const ACQUIRE: u32 = 21;
 pub const POLLING: u32 = 22;
 pub const IPOLLING: u32 = 23;
+pub const EVENT_CREATE: u32 = 24;
+pub const EVENT_DELETE: u32 = 25;
+pub const SET: u32 = 26;
+pub const ISET: u32 = 27;
+pub const CLEAR: u32 = 28;
+pub const ICLEAR: u32 = 29;
+pub const EVENT_WAIT: u32 = 30;
+pub const EVENT_POLLING: u32 = 31;
+pub const EVENT_IWAIT: u32 = 32;
+/// The last of them.
+pub const LAST: u32 = EVENT_IWAIT;
 
 pub struct Service {
     pub name: &'static str,
@@ -43,7 +54,7 @@ const fn service(name: &'static str, numbers: usize, context: u32) -> Service {
 }
 
 /// Place n holds service n; place 0 names nothing.
-pub const SERVICES: [Service; 24] = [
+pub const SERVICES: [Service; LAST as usize + 1] = [
     service("", 0, T),
     service("tn_task_create", 3, T),
     service("tn_task_delete", 1, T),
@@ -68,6 +79,15 @@ pub const SERVICES: [Service; 24] = [
     service("tn_sem_acquire", 2, T),
     service("tn_sem_polling", 1, T),
     service("tn_sem_ipolling", 1, I),
+    service("tn_event_create", 3, T),
+    service("tn_event_delete", 1, T),
+    service("tn_event_set", 2, T),
+    service("tn_event_iset", 2, I),
+    service("tn_event_clear", 2, T),
+    service("tn_event_iclear", 2, I),
+    service("tn_event_wait", 4, T),
+    service("tn_event_wait_polling", 3, T),
+    service("tn_event_iwait", 3, I),
 ];
 
 #[derive(Clone, Copy, PartialEq, Eq, Debug)]
@@ -77,29 +97,44 @@ pub struct Call {
     pub a: u32,
     pub b: u32,
     pub c: u32,
+    pub d: u32,
 }
 
 impl Call {
     /// A call in the context that its service belongs to.
     pub fn of(service: u32, a: u32, b: u32, c: u32) -> Call {
-        Call { context: SERVICES[service as usize].context, service, a, b, c }
+        Call { context: SERVICES[service as usize].context, service, a, b, c, d: 0 }
+    }
+
+    /// The call that takes four numbers.
+    pub fn wait(flag: u32, pattern: u32, mode: u32, timeout: u32) -> Call {
+        Call { d: timeout, ..Call::of(EVENT_WAIT, flag, pattern, mode) }
+    }
+
+    /// How many numbers its service takes.
+    pub fn numbers(&self) -> usize {
+        SERVICES[self.service as usize].numbers
+    }
+
+    /// The line of a list that asks for this call, in a list with so many numbers on every line.
+    pub fn line(&self, width: usize) -> String {
+        let mut line = format!("{},{}", if self.context == T { 'T' } else { 'I' }, SERVICES[self.service as usize].name);
+        for (place, number) in [self.a, self.b, self.c, self.d].into_iter().take(width).enumerate() {
+            line.push(',');
+            if place < self.numbers() {
+                line.push_str(&number.to_string());
+            }
+        }
+        line
     }
 }
 
 impl fmt::Display for Call {
     fn fmt(&self, f: &mut fmt::Formatter<'_>) -> fmt::Result {
-        let known = SERVICES.get(self.service as usize).filter(|s| !s.name.is_empty());
-        let (Some(service), true) = (known, self.context <= I) else {
-            return write!(f, "{:?}", self); // no list can ask for this
-        };
-        write!(f, "{},{}", if self.context == T { 'T' } else { 'I' }, service.name)?;
-        for (place, number) in [self.a, self.b, self.c].into_iter().enumerate() {
-            if place < service.numbers {
-                write!(f, ",{number}")?;
-            } else {
-                write!(f, ",")?;
-            }
+        if self.context <= I && (CREATE..=LAST).contains(&self.service) {
+            write!(f, "{}", self.line(self.numbers().max(3)))
+        } else {
+            write!(f, "{self:?}") // no list can ask for this
         }
-        Ok(())
     }
 }

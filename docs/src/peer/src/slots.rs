@@ -1,19 +1,26 @@
 //! Every number in the library's State by one running index, to damage any of them and to name the first that differs.
-//! The padding in a task's record is no number and has no index.
+//! The padding in a task's record and after the attributes is no number and has no index.
 
-use crate::layout::{State, LEVEL_PLACES, SEMAPHORE_PLACES, TASK_PLACES};
+use crate::layout::{State, FLAG_PLACES, LEVEL_PLACES, SEMAPHORE_PLACES, TASK_PLACES, WAIT_ROWS};
 use crate::queue::PLACES;
 
-const TASK_FIELDS: [&str; 10] =
-    ["base", "priority", "active", "suspended", "wait", "object", "wakeups", "activations", "code", "remaining"];
+#[rustfmt::skip]
+pub const TASK_FIELDS: [&str; 13] = [
+    "base", "priority", "active", "suspended", "wait", "object", "wakeups", "activations", "code", "mode", "remaining", "pattern", "handed",
+];
 
 const LEVELS_AT: usize = TASK_PLACES * TASK_FIELDS.len();
 const WAITS_AT: usize = LEVELS_AT + LEVEL_PLACES * PLACES;
-const SLICES_AT: usize = WAITS_AT + SEMAPHORE_PLACES * PLACES;
+const SLICES_AT: usize = WAITS_AT + WAIT_ROWS * PLACES;
 const CHARGES_AT: usize = SLICES_AT + LEVEL_PLACES;
 const COUNTS_AT: usize = CHARGES_AT + LEVEL_PLACES;
 const MAXIMA_AT: usize = COUNTS_AT + SEMAPHORE_PLACES;
-const TIME_AT: usize = MAXIMA_AT + SEMAPHORE_PLACES;
+const ATTRIBUTES_AT: usize = MAXIMA_AT + SEMAPHORE_PLACES;
+const BITS_AT: usize = ATTRIBUTES_AT + FLAG_PLACES;
+const TIME_AT: usize = BITS_AT + FLAG_PLACES;
+
+/// Where the tables begin, which follow the tasks.
+pub const TABLES: [usize; 8] = [LEVELS_AT, WAITS_AT, SLICES_AT, CHARGES_AT, COUNTS_AT, MAXIMA_AT, ATTRIBUTES_AT, BITS_AT];
 
 /// How many numbers a State holds.
 pub const SLOTS: usize = TIME_AT + 1;
@@ -41,7 +48,10 @@ fn place(state: &mut State, slot: usize) -> Place<'_> {
                 6 => Place::Byte(&mut task.wakeups),
                 7 => Place::Byte(&mut task.activations),
                 8 => Place::Byte(&mut task.code),
-                _ => Place::Word(&mut task.remaining),
+                9 => Place::Byte(&mut task.mode),
+                10 => Place::Word(&mut task.remaining),
+                11 => Place::Word(&mut task.pattern),
+                _ => Place::Word(&mut task.handed),
             }
         }
         LEVELS_AT..WAITS_AT => Place::Byte(&mut state.levels[slot - LEVELS_AT]),
@@ -49,7 +59,9 @@ fn place(state: &mut State, slot: usize) -> Place<'_> {
         SLICES_AT..CHARGES_AT => Place::Half(&mut state.slices[slot - SLICES_AT]),
         CHARGES_AT..COUNTS_AT => Place::Half(&mut state.charges[slot - CHARGES_AT]),
         COUNTS_AT..MAXIMA_AT => Place::Half(&mut state.counts[slot - COUNTS_AT]),
-        MAXIMA_AT..TIME_AT => Place::Half(&mut state.maxima[slot - MAXIMA_AT]),
+        MAXIMA_AT..ATTRIBUTES_AT => Place::Half(&mut state.maxima[slot - MAXIMA_AT]),
+        ATTRIBUTES_AT..BITS_AT => Place::Byte(&mut state.attributes[slot - ATTRIBUTES_AT]),
+        BITS_AT..TIME_AT => Place::Word(&mut state.bits[slot - BITS_AT]),
         _ => Place::Word(&mut state.time),
     }
 }
@@ -76,11 +88,13 @@ pub fn name(slot: usize) -> String {
     match slot {
         0..LEVELS_AT => format!("tasks[{}].{}", slot / TASK_FIELDS.len(), TASK_FIELDS[slot % TASK_FIELDS.len()]),
         LEVELS_AT..WAITS_AT => row("level", slot - LEVELS_AT),
-        WAITS_AT..SLICES_AT => row("waiters of semaphore", slot - WAITS_AT),
+        WAITS_AT..SLICES_AT => row("row of waiters", slot - WAITS_AT),
         SLICES_AT..CHARGES_AT => format!("slices[{}]", slot - SLICES_AT),
         CHARGES_AT..COUNTS_AT => format!("charges[{}]", slot - CHARGES_AT),
         COUNTS_AT..MAXIMA_AT => format!("counts[{}]", slot - COUNTS_AT),
-        MAXIMA_AT..TIME_AT => format!("maxima[{}]", slot - MAXIMA_AT),
+        MAXIMA_AT..ATTRIBUTES_AT => format!("maxima[{}]", slot - MAXIMA_AT),
+        ATTRIBUTES_AT..BITS_AT => format!("attributes[{}]", slot - ATTRIBUTES_AT),
+        BITS_AT..TIME_AT => format!("bits[{}]", slot - BITS_AT),
         _ => "time".to_string(),
     }
 }

@@ -1,7 +1,7 @@
-//! The test of 'A sound state' on the library's layout, sentence by sentence.
+//! The test of 'A sound state' on the library's layout, sentence by sentence, with what request P1 adds to it.
 //! It holds on any bytes: nothing is indexed by a number that was not tested before.
 
-use crate::kernel::{LARGEST_SLICE, LEVELS, SEMAPHORES, TASKS};
+use crate::kernel::{Asked, FLAGS, LARGEST_SLICE, LEVELS, SEMAPHORES, TASKS};
 use crate::layout::{State, Task};
 
 pub fn is_sound(s: &State) -> bool {
@@ -9,9 +9,10 @@ pub fn is_sound(s: &State) -> bool {
         && (1..=TASKS as usize).all(|t| task_is_sound(s, &s.tasks[t]))
         && (1..=LEVELS as usize).all(|p| level_is_sound(s, p))
         && (1..=SEMAPHORES as usize).all(|k| semaphore_is_sound(s, k))
+        && (1..=FLAGS as usize).all(|f| flag_is_sound(s, f))
 }
 
-/// Tasks, levels and semaphores begin at 1; place 0 of every table is all zeros.
+/// Tasks, levels, semaphores and flags begin at 1; place 0 of every table is all zeros.
 fn nothing_at_place_zero(s: &State) -> bool {
     s.tasks[0] == Task::NONE
         && s.level(0).iter().all(|&t| t == 0)
@@ -20,6 +21,8 @@ fn nothing_at_place_zero(s: &State) -> bool {
         && s.charges[0] == 0
         && s.counts[0] == 0
         && s.maxima[0] == 0
+        && s.attributes[0] == 0
+        && s.bits[0] == 0
 }
 
 fn task_is_sound(s: &State, task: &Task) -> bool {
@@ -28,7 +31,8 @@ fn task_is_sound(s: &State, task: &Task) -> bool {
     }
     numbers_in_range(task)
         && waits_for_something_there(s, task)
-        && if task.wait == 0 { task.remaining == 0 } else { task.remaining >= 1 && task.code == 0 }
+        && if task.wait == 0 { task.remaining == 0 } else { task.remaining >= 1 && task.code == 0 && task.handed == 0 }
+        && asks_what_it_may(task)
         && (task.wait != 1 || task.wakeups == 0) // a sleeper's wakeup count is 0
         && (task.active == 1 || is_at_rest(task))
 }
@@ -45,22 +49,32 @@ fn numbers_in_range(task: &Task) -> bool {
         && matches!(task.code, 0 | 4 | 10 | 11)
 }
 
-/// A task waits for nothing, a sleep or a created semaphore.
+/// A task waits for nothing, a sleep, a created semaphore or a created flag.
 fn waits_for_something_there(s: &State, task: &Task) -> bool {
     match task.wait {
         0 | 1 => task.object == 0,
         2 => (1..=SEMAPHORES as u8).contains(&task.object) && s.maxima[task.object as usize] != 0,
+        3 => (1..=FLAGS as u8).contains(&task.object) && s.attributes[task.object as usize] != 0,
         _ => false,
     }
 }
 
-/// A dormant task has no wait, suspension, counts or code, and its creation priority.
+/// What a flag wait asks is in range; pattern and mode are 0 outside it.
+fn asks_what_it_may(task: &Task) -> bool {
+    match task.wait {
+        3 => task.pattern != 0 && task.mode <= 1,
+        _ => task.pattern == 0 && task.mode == 0,
+    }
+}
+
+/// A dormant task has no wait, suspension, counts or code, nothing handed over, and its creation priority.
 fn is_at_rest(task: &Task) -> bool {
     task.wait == 0
         && task.suspended == 0
         && task.wakeups == 0
         && task.activations == 0
         && task.code == 0
+        && task.handed == 0
         && task.priority == task.base
 }
 
@@ -82,6 +96,25 @@ fn semaphore_is_sound(s: &State, k: usize) -> bool {
         && (s.maxima[k] != 0 || waiters.iter().all(|&t| t == 0))
         && (waiters[0] == 0 || s.counts[k] == 0)
         && lists_exactly(waiters, s, |task| task.wait == 2 && usize::from(task.object) == k)
+}
+
+/// Its attributes are in range; one that is not created has no bits and nobody waits on it; on SINGLE one at most waits.
+/// The tasks waiting on it are listed, and its bits meet none of them.
+fn flag_is_sound(s: &State, f: usize) -> bool {
+    let waiters = s.flag_waiters(f);
+    let waits_here = |task: &Task| task.wait == 3 && usize::from(task.object) == f;
+    let numbers = match s.attributes[f] {
+        0 => s.bits[f] == 0 && waiters[0] == 0,
+        1 => true,
+        2 | 4 => waiters[1] == 0,
+        _ => false,
+    };
+    numbers
+        && lists_exactly(waiters, s, waits_here)
+        && s.tasks.iter().filter(|task| waits_here(task)).all(|task| {
+            let asked = Asked { pattern: task.pattern, all: task.mode == 1 };
+            !asked.is_met_by(s.bits[f])
+        })
 }
 
 /// The row lists exactly the wanted tasks, once each, and its places past the end hold 0.

@@ -59,7 +59,7 @@ fn case_4_timeout_65535_ends_at_tick_65535() {
         let answer = if service == SLEEP { bench.call1(SLEEP, 65_535) } else { bench.call(ACQUIRE, 1, 65_535, 0) };
         assert_eq!(answer, (1, 0));
         for tick in 1..65_535 {
-            assert_eq!(bench.kernel.call(I, TICK, 0, 0, 0), (0, 0), "tick {tick}");
+            assert_eq!(bench.kernel.call(&Call::of(TICK, 0, 0, 0)).running, 0, "tick {tick}");
         }
         assert_eq!(bench.tick(), 1);
         assert_eq!(bench.kernel.time, 65_535);

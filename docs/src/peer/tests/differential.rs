@@ -1,10 +1,10 @@
-//! The proved library against the peer, call by call: code, running task and every number of the next state.
+//! The proved library against the peer, call by call: code, running task, value and every number of the next state.
 //! What differs is cut down to the fewest calls and damages that still show it, and printed.
 #![cfg(library)]
 
 use peer::gen::{Rng, World, LIMITS};
 use peer::gen_states::{after, damage, damage_at, reached, Damage};
-use peer::kernel::{Kernel, UNSOUND, WRONG_PARAM};
+use peer::kernel::{Answer, Kernel, UNSOUND, WRONG_PARAM};
 use peer::layout::{self, store, Reply, State};
 use peer::services::*;
 use peer::shrink::shrink;
@@ -19,7 +19,8 @@ fn unlike(ours: &Reply, theirs: &Reply) -> Option<String> {
     if ours == theirs {
         return None;
     }
-    let answer = format!("peer ({}, {}), library ({}, {})", ours.code, ours.running, theirs.code, theirs.running);
+    let answer = |reply: &Reply| format!("({}, {}, {})", reply.code, reply.running, reply.value);
+    let answer = format!("peer {}, library {}", answer(ours), answer(theirs));
     Some(format!("{answer}\n{}", differences(&ours.state, &theirs.state).join("\n")))
 }
 
@@ -29,9 +30,9 @@ fn run_differs(time: u32, calls: &[Call]) -> Option<String> {
     kernel.time = time;
     let mut state = store(&kernel);
     for (number, call) in (1..).zip(calls) {
-        let (code, running) = kernel.call(call.context, call.service, call.a, call.b, call.c);
+        let Answer { code, running, value } = kernel.call(call);
         let theirs = library_call(&state, call);
-        if let Some(how) = unlike(&Reply { code, running, state: store(&kernel) }, &theirs) {
+        if let Some(how) = unlike(&Reply { code, running, value, state: store(&kernel) }, &theirs) {
             return Some(format!("at call {number}, {call}: {how}"));
         }
         if !library_is_sound(&theirs.state) {
@@ -76,10 +77,11 @@ fn random_calls_odd() {
 fn a_long_run_of_ticks() {
     let mut calls = vec![Call::of(SEM_CREATE, 1, 0, 1), Call::of(CREATE, 2, 9, 1), Call::of(SLEEP, 65_535, 0, 0)];
     calls.extend([Call::of(CREATE, 1, 9, 1), Call::of(ACQUIRE, 1, 65_535, 0)]);
+    calls.extend([Call::of(EVENT_CREATE, 8, 0, 1), Call::of(CREATE, 3, 9, 1), Call::wait(8, 6, 0, 65_535)]);
     calls.extend([Call::of(TICK, 0, 0, 0)].repeat(65_537));
     assert_eq!(run_differs(u32::MAX - 30_000, &calls), None);
     let kernel = after(&calls[..calls.len() - 2]);
-    assert_eq!(kernel.levels[9].queue.as_slice(), [1, 2]);
+    assert_eq!(kernel.levels[9].queue.as_slice(), [1, 2, 3]);
 }
 
 /// Damages the state that the calls reach, then tests it and makes one more call; says what differs.
@@ -97,8 +99,8 @@ fn state_differs(state: &State, last: &Call) -> Option<String> {
         return Some(format!("sound? peer {sound}, library {}", !sound));
     }
     let theirs = library_call(state, last);
-    if !sound && (theirs.code, theirs.running) != (UNSOUND, 0) {
-        return Some(format!("unsound, but the library answers ({}, {})", theirs.code, theirs.running));
+    if !sound && (theirs.code, theirs.running, theirs.value) != (UNSOUND, 0, 0) {
+        return Some(format!("unsound, but the library answers ({}, {}, {})", theirs.code, theirs.running, theirs.value));
     }
     unlike(&layout::call(state, *last), &theirs)
 }
@@ -114,7 +116,7 @@ fn test_damaged(seed: u64, calls: &[Call], damages: &[Damage], last: &Call) {
     panic!("seed {seed}:\n{}then the damages\n{damaged}then {last}: {how}", text(&calls));
 }
 
-/// Every number of a state in turn: 55,800 states with one of them damaged.
+/// Every number of a state in turn: 67,200 states with one of them damaged.
 #[test]
 fn every_number_damaged() {
     let mut rng = Rng::new(11);
@@ -128,7 +130,7 @@ fn every_number_damaged() {
 }
 
 /// Every number outside the queues, and every place of a queue up to the first free one, with each value that means
-/// something somewhere: about 200,000 states.
+/// something somewhere: above 300,000 states.
 #[test]
 fn every_value_that_means_something() {
     let mut world = World::new(15);
@@ -144,7 +146,7 @@ fn every_value_that_means_something() {
             }
         }
     }
-    assert!(states > 200_000, "{states}");
+    assert!(states > 300_000, "{states}");
 }
 
 /// 30,000 states with one number damaged where it matters most, and 10,000 with two or three.
@@ -185,17 +187,18 @@ fn any_numbers_at_all() {
 fn unknown_contexts_and_services() {
     let mut rng = Rng::new(14);
     let contexts = [T, I, 2, 3, 84, 255, 256, 257, 1 << 31, u32::MAX];
-    let services = [0, 1, 16, 23, 24, 25, 46, 255, 256, 257, 272, 65_537, 1 << 31, u32::MAX];
+    let services = [0, 1, 16, 24, 32, 33, 34, 46, 255, 256, 257, 272, 65_537, 1 << 31, u32::MAX];
     for seed in 0..50 {
         let (_, state) = reached(seed);
-        let running = layout::call(&state, Call { context: 2, service: 0, a: 0, b: 0, c: 0 }).running;
+        let running = layout::call(&state, Call { context: 2, service: 0, a: 0, b: 0, c: 0, d: 0 }).running;
         for context in contexts {
             for service in services {
-                if context <= I && (CREATE..=IPOLLING).contains(&service) {
+                if context <= I && (CREATE..=LAST).contains(&service) {
                     continue;
                 }
-                let call = Call { context, service, a: rng.pick(&LIMITS), b: rng.pick(&LIMITS), c: rng.pick(&LIMITS) };
-                let expected = Reply { code: WRONG_PARAM, running, state };
+                let [a, b, c, d] = std::array::from_fn(|_| rng.pick(&LIMITS));
+                let call = Call { context, service, a, b, c, d };
+                let expected = Reply { code: WRONG_PARAM, running, value: 0, state };
                 assert_eq!(unlike(&expected, &library_call(&state, &call)), None, "seed {seed}, {call}");
                 let mut bad = state;
                 bad.tasks[0].base = 1;

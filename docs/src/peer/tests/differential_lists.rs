@@ -118,7 +118,7 @@ fn any_bytes_at_all() {
         let mut file: Vec<u8> =
             (0..length).map(|_| if rng.percent(50) { rng.pick(b"T,I\r\n0tn_") } else { rng.any() as u8 }).collect();
         if rng.percent(70) {
-            file.splice(0..0, *b"ctx,service,a,b,c\n");
+            file.splice(0..0, rng.pick(&[&b"ctx,service,a,b,c\n"[..], b"ctx,service,a,b,c,d\n"]).iter().copied());
         }
         test(&format!("round {round}"), &file);
     }

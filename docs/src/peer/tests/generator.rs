@@ -10,11 +10,11 @@ use peer::lists::{read_list, run_calls};
 use peer::services::*;
 use std::collections::BTreeMap;
 
-const RUNS: u64 = 1_000;
+const RUNS: u64 = 2_000;
 const LENGTH: usize = 300;
 
 /// The codes that each service can answer with.
-const CODES: [(u32, &[i32]); 23] = [
+const CODES: [(u32, &[i32]); LAST as usize] = [
     (CREATE, &[0, -2, -5]),
     (DELETE, &[0, -2, -5, -9]),
     (ACTIVATE, &[0, -1, -2, -5, -9]),
@@ -38,6 +38,15 @@ const CODES: [(u32, &[i32]); 23] = [
     (ACQUIRE, &[0, 1, -2, -5, -9]),
     (POLLING, &[0, -2, -4, -5, -9]),
     (IPOLLING, &[0, -2, -4, -5, -9]),
+    (EVENT_CREATE, &[0, -2, -5]),
+    (EVENT_DELETE, &[0, -2, -5, -9]),
+    (SET, &[0, -2, -5, -9]),
+    (ISET, &[0, -2, -5, -9]),
+    (CLEAR, &[0, -2, -5, -9]),
+    (ICLEAR, &[0, -2, -5, -9]),
+    (EVENT_WAIT, &[0, 1, -2, -5, -8, -9]),
+    (EVENT_POLLING, &[0, -2, -4, -5, -8, -9]),
+    (EVENT_IWAIT, &[0, -2, -4, -5, -8, -9]),
 ];
 
 /// The rare meetings that one accepted call shows.
@@ -49,7 +58,11 @@ fn meetings(before: &Kernel, call: &Call, after: &Kernel) -> Vec<&'static str> {
         match call.service {
             TICK if ended => {
                 expired += 1;
-                seen.push(if old.wait == Wait::Sleep { "a sleep runs out" } else { "a semaphore wait times out" });
+                seen.push(match old.wait {
+                    Wait::Sleep => "a sleep runs out",
+                    Wait::Semaphore(_) => "a semaphore wait times out",
+                    _ => "a flag wait times out",
+                });
                 if old.suspended {
                     seen.push("a suspended waiter times out");
                 }
@@ -78,6 +91,7 @@ fn meetings(before: &Kernel, call: &Call, after: &Kernel) -> Vec<&'static str> {
     if after.semaphores.iter().any(|semaphore| semaphore.queue.as_slice().len() == 24) {
         seen.push("a full wait queue");
     }
+    seen.extend(flag_meetings(before, call, after));
     let subject = before.tasks.get(call.a as usize).copied().unwrap_or(before.tasks[0]);
     let caller = before.tasks[before.running()];
     match call.service {
@@ -95,6 +109,7 @@ fn meetings(before: &Kernel, call: &Call, after: &Kernel) -> Vec<&'static str> {
             seen.push("a deletion with 3 waiters")
         }
         SUSPEND if call.a as usize == before.running() => seen.push("a task suspends itself"),
+        SLEEP | ACQUIRE if caller.handed != 0 => seen.push("another wait after bits handed over"),
         SLEEP | ACQUIRE if caller.wait_code != 0 => seen.push("a wait after a wait code"),
         TICK => {
             let level = before.levels.iter().zip(&after.levels).find(|(old, _)| !old.queue.is_empty());
@@ -112,7 +127,48 @@ fn meetings(before: &Kernel, call: &Call, after: &Kernel) -> Vec<&'static str> {
     seen
 }
 
-const MEETINGS: usize = 27;
+/// Those of event flags.
+fn flag_meetings(before: &Kernel, call: &Call, after: &Kernel) -> Vec<&'static str> {
+    let mut seen = Vec::new();
+    if !(EVENT_DELETE..=EVENT_IWAIT).contains(&call.service) {
+        return seen;
+    }
+    let (old, new) = (before.flags[call.a as usize], after.flags[call.a as usize]);
+    let waited = old.queue.as_slice();
+    let ended: Vec<usize> = (0..waited.len()).filter(|&place| !new.queue.as_slice().contains(&waited[place])).collect();
+    match call.service {
+        EVENT_DELETE if waited.len() >= 3 => seen.push("a flag's deletion with 3 waiters"),
+        SET | ISET if ended.is_empty() && new.clr => seen.push("a set meets nobody, and CLR leaves its bits"),
+        SET | ISET if ended.is_empty() && !waited.is_empty() => seen.push("a set meets no waiter"),
+        SET | ISET => {
+            if ended.len() >= 2 {
+                seen.push("a set serves two waiters");
+            }
+            if ended.first().is_some_and(|&place| place > 0) {
+                seen.push("a set passes the first waiter by");
+            }
+            if !ended.is_empty() && new.clr {
+                seen.push("a set serves a waiter, and CLR zeroes the bits");
+            }
+            if ended.iter().any(|&place| before.tasks[waited[place] as usize].suspended) {
+                seen.push("a suspended flag waiter is served");
+            }
+        }
+        EVENT_WAIT if new.queue == old.queue && new.clr => seen.push("a wait is met at once, and CLR zeroes the bits"),
+        EVENT_WAIT if new.queue == old.queue => seen.push("a wait is met at once"),
+        EVENT_WAIT if before.tasks[before.running()].handed != 0 => seen.push("a wait after bits handed over"),
+        EVENT_POLLING | EVENT_IWAIT if new.clr => seen.push("a poll is met, and CLR zeroes the bits"),
+        EVENT_POLLING | EVENT_IWAIT if !old.queue.is_empty() => seen.push("a poll is met beside a waiter"),
+        CLEAR | ICLEAR if !old.queue.is_empty() && new.bits != old.bits => seen.push("a clear beside a waiter"),
+        _ => {}
+    }
+    if new.queue.as_slice().len() >= 12 {
+        seen.push("a flag with 12 waiters");
+    }
+    seen
+}
+
+const MEETINGS: usize = 43;
 
 #[test]
 fn random_calls_reach_every_code_and_meeting() {
@@ -160,7 +216,7 @@ fn lists_of_random_calls_are_read_back() {
         let calls = world.run(100);
         let file = readable(&mut world.rng, &calls);
         let read = read_list(&file).expect("a readable list");
-        assert_eq!(lines(&read), lines(&calls)); // unused numbers are not written
+        assert_eq!(lines(&read, 4), lines(&calls, 4)); // unused numbers are not written
         assert_eq!(run_calls(&read), run_calls(&calls));
     }
 }

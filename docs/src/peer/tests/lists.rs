@@ -3,7 +3,7 @@
 
 use peer::gen::{Rng, World};
 use peer::gen_files::{bad_end, bad_list, damage_bytes, exact};
-use peer::gen_lists::{damaged_line, join, lines, readable, BAD_HEADERS, LINE_DAMAGES};
+use peer::gen_lists::{damaged_line, header, join, lines, readable, BAD_HEADERS, LINE_DAMAGES};
 use peer::lists::{read_list, run_list};
 use peer::services::*;
 
@@ -77,6 +77,48 @@ fn small_files() {
     assert_eq!(run(b"ctx,service,a,b,c").1, b"n,code,running\r\n");
 }
 
+/// A hold until a key press: task 1 waits endlessly for the key's bit, and the interrupt sets it.
+const HELD: &str = "ctx,service,a,b,c,d
+T,tn_event_create,1,3,0,
+T,tn_task_create,1,2,1,
+T,tn_event_wait,1,1,0,4294967295
+I,tn_tick_int_processing,,,,
+I,tn_event_iset,1,1,,
+T,tn_event_wait_polling,1,1,0,
+T,tn_event_clear,1,4294967295,,
+T,tn_event_wait,1,0,0,1
+";
+const HELD_ANSWER: &str = "n,code,running\r\n1,0,0\r\n2,0,1\r\n3,1,0\r\n4,0,0\r\n5,0,1\r\n6,-4,1\r\n7,0,1\r\n8,-5,1\r\n";
+
+#[test]
+fn a_hold_as_a_flag_wait() {
+    for file in [HELD.to_string(), HELD.replace('\n', "\r\n")] {
+        let (result, answer) = run(file.as_bytes());
+        assert_eq!(answer, HELD_ANSWER.as_bytes());
+        assert_eq!(result, HELD_ANSWER.len() as i64);
+    }
+}
+
+#[test]
+fn two_headers() {
+    for (file, result) in [
+        ("ctx,service,a,b,c,d", 16),
+        ("ctx,service,a,b,c,d\r\n", 16),
+        ("ctx,service,a,b,c,d\r", -11),
+        ("ctx,service,a,b,c,d\n\n", -12),
+        ("ctx,service,a,b,c,d\nT,tn_task_exit,,,,\n", 24),
+        ("ctx,service,a,b,c,d\nT,tn_task_exit,,,\n", -12),
+        ("ctx,service,a,b,c,d\nT,tn_task_exit,,,,,\n", -12),
+        ("ctx,service,a,b,c,d\nT,tn_event_wait,1,1,0,\n", -12),
+        ("ctx,service,a,b,c\nT,tn_event_wait,1,1,0,5\n", -12),
+        ("ctx,service,a,b,c\nT,tn_event_wait,1,1,0\n", -12),
+        ("ctx,service,a,b,c\nI,tn_event_iwait,1,1,0\n", 24),
+        ("ctx,service,a,b,c\nT,tn_task_exit,,,,\n", -12),
+    ] {
+        assert_eq!(code_of(file.as_bytes()), result, "{file:?}");
+    }
+}
+
 #[test]
 fn numbers_at_their_limits_and_the_wrong_context_are_readable() {
     let file = with_header(
@@ -84,15 +126,18 @@ fn numbers_at_their_limits_and_the_wrong_context_are_readable() {
     );
     assert_eq!(run(&file).1, b"n,code,running\r\n1,-5,0\r\n2,-2,0\r\n3,-2,0\r\n4,-5,0\r\n");
     let call = read_list(&with_header("I,tn_task_create,24,0,4294967295")).unwrap()[0];
-    assert_eq!(call, Call { context: I, service: CREATE, a: 24, b: 0, c: u32::MAX });
+    assert_eq!(call, Call { context: I, service: CREATE, a: 24, b: 0, c: u32::MAX, d: 0 });
 }
 
 #[test]
 fn every_service_is_read_by_its_name() {
-    for number in CREATE..=IPOLLING {
+    for service in CREATE..=LAST {
         for context in [T, I] {
-            let call = Call { context, service: number, a: 0, b: 0, c: 0 };
-            assert_eq!(read_list(&with_header(&call.to_string())), Ok(vec![call]));
+            let call = Call { context, service, a: 0, b: 0, c: 0, d: 0 };
+            let wide = format!("ctx,service,a,b,c,d\n{}", call.line(4));
+            assert_eq!(read_list(wide.as_bytes()), Ok(vec![call]));
+            let narrow = read_list(&with_header(&call.line(3)));
+            assert_eq!(narrow, if service == EVENT_WAIT { Err(2) } else { Ok(vec![call]) });
         }
     }
 }
@@ -114,12 +159,15 @@ fn every_damage_is_answered_with_its_line() {
 #[test]
 fn every_damage_on_every_service_in_every_place() {
     let mut rng = Rng::new(2);
-    for service in CREATE..=IPOLLING {
+    for (service, width) in (CREATE..=LAST).flat_map(|service| [(service, 3), (service, 4)]) {
+        let good = Call { d: 4, ..Call::of(service, 1, 2, 3) };
+        if good.numbers() > width {
+            continue;
+        }
         for (name, damage) in LINE_DAMAGES {
-            let good = Call::of(service, 1, 2, 3);
-            let Some(bad) = damage(&mut rng, &good) else { continue };
+            let Some(bad) = damage(&mut rng, &good, width) else { continue };
             for place in 1..=3 {
-                let mut lines = lines(&[good, good, good]);
+                let mut lines = lines(&[good, good, good], width);
                 lines[place] = bad.clone();
                 let file = join(&mut rng, &lines);
                 assert_eq!(code_of(&file), -(11 + place as i64), "{name}: {:?}", String::from_utf8_lossy(&file));
@@ -175,6 +223,9 @@ fn files_of_the_longest_length() {
     }
     let most = format!("ctx,service,a,b,c\n{}", "T,tn_task_exit,,,\n".repeat(3_639));
     assert_eq!(code_of(most.as_bytes()), 38_938);
+    let most = format!("ctx,service,a,b,c,d\n{}", "T,tn_task_exit,,,,\n".repeat(3_448));
+    assert!(most.len() <= 65_536 && most.len() + 19 > 65_536);
+    assert_eq!(code_of(most.as_bytes()), 36_837);
 }
 
 /// The lines of a file with their line ends, as a reader would count them.
@@ -213,11 +264,12 @@ fn any_bytes_at_all_never_panic() {
     for _ in 0..20_000 {
         let length = rng.below(80);
         let mut file: Vec<u8> = (0..length).map(|_| rng.any() as u8).collect();
+        let width = rng.pick(&[3, 4]);
         if rng.percent(50) {
-            file.splice(0..0, *b"ctx,service,a,b,c\n");
+            file.splice(0..0, [header(width), b"\n"].concat());
         }
         if rng.percent(30) {
-            let (_, line) = damaged_line(&mut rng, &Call::of(ACQUIRE, 1, 2, 0));
+            let (_, line) = damaged_line(&mut rng, &Call::of(ACQUIRE, 1, 2, 0), width);
             file.extend_from_slice(&line);
         }
         run(&file);

@@ -105,11 +105,11 @@ fn ruling_2_what_start_up_code_may_not_do() {
 
 #[test]
 fn every_service_minds_its_context() {
-    let mut bench = made(&[(SEM_CREATE, 1, 1, 2), (CREATE, 1, 5, 1)]);
-    for service in CREATE..=IPOLLING {
+    let mut bench = made(&[(SEM_CREATE, 1, 1, 2), (EVENT_CREATE, 1, 0, 0), (CREATE, 1, 5, 1)]);
+    for service in CREATE..=LAST {
         let (a, b, c) = match service {
             CREATE => (2, 5, 1),
-            SEM_CREATE => (2, 0, 1),
+            SEM_CREATE | EVENT_CREATE => (2, 0, 1),
             _ => (1, 1, 1),
         };
         assert_eq!(bench.wrongly(service, a, b, c), (-2, 1), "{}", Call::of(service, a, b, c));
@@ -119,8 +119,8 @@ fn every_service_minds_its_context() {
 #[test]
 fn unknown_contexts_and_services_are_wrong_numbers() {
     let mut bench = made(&[(CREATE, 1, 5, 1)]);
-    for (context, service) in [(2, TICK), (u32::MAX, EXIT), (T, 0), (I, 24), (T, u32::MAX), (2, 0)] {
-        assert_eq!(bench.make(Call { context, service, a: 1, b: 1, c: 1 }), (-5, 1));
+    for (context, service) in [(2, TICK), (u32::MAX, EXIT), (T, 0), (I, LAST + 1), (T, u32::MAX), (2, 0)] {
+        assert_eq!(bench.make(Call { context, service, a: 1, b: 1, c: 1, d: 1 }), (-5, 1));
     }
 }
 

@@ -6,7 +6,7 @@ use peer::gen_states::{damage, damage_at, reached};
 use peer::kernel::FOREVER;
 use peer::layout::{call, load, store, State, Task};
 use peer::services::*;
-use peer::slots::{self, SLOTS};
+use peer::slots::{self, SLOTS, TABLES, TASK_FIELDS};
 use peer::sound::is_sound;
 
 /// Level 5: [1, 2]; 3 waits on semaphore 4 and is suspended, then 6; 7 sleeps; 8 is dormant, 9 suspended.
@@ -167,7 +167,8 @@ fn dormant_tasks_and_tasks_not_created() {
 
 #[test]
 fn place_0_of_every_table_is_all_zeros() {
-    for slot in (0..10).chain([250, 273, 994, 1017, 1306, 1337, 1368, 1381]) {
+    let queue_ends = [TABLES[0] + 23, TABLES[1] + 23];
+    for slot in (0..TASK_FIELDS.len()).chain(TABLES).chain(queue_ends) {
         let mut state = sample();
         slots::set(&mut state, slot, 1);
         assert!(!is_sound(&state), "{}", slots::name(slot));

@@ -2,23 +2,25 @@
 //! After every call the state must be sound, survive the library's layout, and be unchanged if the call was refused.
 #![allow(dead_code)]
 
-use peer::kernel::Kernel;
+use peer::kernel::{Answer, Kernel};
 use peer::layout::{load, store};
-use peer::services::{Call, SERVICES, TICK};
+use peer::services::*;
 use peer::sound::is_sound;
 
 pub struct Bench {
     pub kernel: Kernel,
+    /// What the last call got at once.
+    pub value: u32,
 }
 
 impl Bench {
     pub fn fresh() -> Bench {
-        Bench { kernel: Kernel::fresh() }
+        Bench { kernel: Kernel::fresh(), value: 0 }
     }
 
     pub fn make(&mut self, call: Call) -> (i32, u32) {
         let before = self.kernel.clone();
-        let (code, running) = self.kernel.call(call.context, call.service, call.a, call.b, call.c);
+        let Answer { code, running, value } = self.kernel.call(&call);
         let state = store(&self.kernel);
         assert!(is_sound(&state), "unsound after {call}: {:?}", self.kernel);
         assert_eq!(load(&state).as_ref(), Some(&self.kernel), "after {call}");
@@ -26,12 +28,19 @@ impl Bench {
             assert_eq!(self.kernel, before, "{call} was refused with {code} but changed the state");
         }
         assert_eq!(running as usize, self.kernel.running());
+        let gives = code == 0 && matches!(call.service, EVENT_WAIT | EVENT_POLLING | EVENT_IWAIT);
+        assert_eq!(value != 0, gives, "{call} answered {code} with {value}"); // a pattern is never met by no bits
+        self.value = value;
         (code, running)
     }
 
     /// In the service's own context.
     pub fn call(&mut self, service: u32, a: u32, b: u32, c: u32) -> (i32, u32) {
         self.make(Call::of(service, a, b, c))
+    }
+
+    pub fn wait(&mut self, flag: u32, pattern: u32, mode: u32, timeout: u32) -> (i32, u32) {
+        self.make(Call::wait(flag, pattern, mode, timeout))
     }
 
     pub fn call1(&mut self, service: u32, a: u32) -> (i32, u32) {
@@ -41,7 +50,7 @@ impl Bench {
     /// In the other context.
     pub fn wrongly(&mut self, service: u32, a: u32, b: u32, c: u32) -> (i32, u32) {
         let context = 1 - SERVICES[service as usize].context;
-        self.make(Call { context, service, a, b, c })
+        self.make(Call { context, service, a, b, c, d: 1 })
     }
 
     pub fn tick(&mut self) -> u32 {
@@ -56,6 +65,18 @@ impl Bench {
 
     pub fn waiters(&self, semaphore: usize) -> &[u8] {
         self.kernel.semaphores[semaphore].queue.as_slice()
+    }
+
+    pub fn flag_waiters(&self, flag: usize) -> &[u8] {
+        self.kernel.flags[flag].queue.as_slice()
+    }
+
+    pub fn bits(&self, flag: usize) -> u32 {
+        self.kernel.flags[flag].bits
+    }
+
+    pub fn handed(&self, task: usize) -> u32 {
+        self.kernel.tasks[task].handed
     }
 
     pub fn code(&self, task: usize) -> i32 {

@@ -13,14 +13,14 @@ mod entry {
     use super::{Call, Reply, State};
 
     extern "C" {
-        fn gritgarland_call(s: State, context: u32, service: u32, a: u32, b: u32, c: u32) -> Reply;
+        fn gritgarland_call(s: State, context: u32, service: u32, a: u32, b: u32, c: u32, d: u32) -> Reply;
         fn gritgarland_is_sound(s: State) -> bool;
         fn run_list(file: *const u8, n: usize, answer: *mut u8, m: usize) -> i64;
     }
 
     pub fn call(state: &State, call: &Call) -> Reply {
         // SAFETY: the layout is the library's, and any bytes are a State.
-        unsafe { gritgarland_call(*state, call.context, call.service, call.a, call.b, call.c) }
+        unsafe { gritgarland_call(*state, call.context, call.service, call.a, call.b, call.c, call.d) }
     }
 
     pub fn is_sound(state: &State) -> bool {
@@ -86,7 +86,7 @@ mod entry {
     pub fn call(state: &State, call: &Call) -> Reply {
         let mut request = vec![b'C'];
         request.extend_from_slice(bytes_of(state));
-        for number in [call.context, call.service, call.a, call.b, call.c] {
+        for number in [call.context, call.service, call.a, call.b, call.c, call.d] {
             request.extend_from_slice(&number.to_le_bytes());
         }
         let mut reply = MaybeUninit::<Reply>::zeroed();
