@@ -1,4 +1,4 @@
--- A copied row: its places one by one, and that ending the waits of those in it is ending those of the row itself.
+-- A copied row: its places one by one, and that telling those in it is telling those of the row itself.
 -- Rests on the definitions alone.
 use mathlib.Core.Path.{_≡_, refl, sym, ap, _∙_}
 use mathlib.Core.Bool.{Bool, true, false, cond}
@@ -12,10 +12,11 @@ use lib.ListN.{getD, set, length, take, drop, drop-of-length-le, List·getD-eq-d
 use lib.Seq.{take-suc, take-suc-set, take-all, drop-cons, take-nil}
 use Rattle.model.specs.declared.Task.{Task}
 use Rattle.model.specs.declared.State.{State}
+use Rattle.model.specs.declared.News.{News}
 use Rattle.model.specs.Row.{row}
-use Rattle.model.specs.Task.{ended, dlt}
+use Rattle.model.specs.Task.{told}
 use Rattle.model.specs.State.{task, moved}
-use Rattle.model.specs.Effect.{endedAll}
+use Rattle.model.specs.Effect.{toldAll}
 use Rattle.effects.specs.Parts.{places}
 
 pub length-places : (n a : ℕ) (ls : List ℕ) → length (places n a ls) ≡ n
@@ -39,16 +40,16 @@ full r ls a i e h g =
     sym (take-all i r (omega (arith, e))) ∙ g ∙ take-all i (places 24 a ls) (omega (arith, length-places 24 a ls))
 
 -- zeros for what is past the table end the queue, as its end does
-ended-places : (n a : ℕ) (ls : List ℕ) (s : State) → endedAll (places n a ls) s ≡ endedAll (take n (drop a ls)) s
-unfolding places endedAll
-ended-places zero a ls s = refl
-ended-places (suc n) a ls s = go (decLt a (length ls)) (ended-places n (suc a) ls)
+told-places : (w : News) (n a : ℕ) (ls : List ℕ) (s : State) → toldAll w (places n a ls) s ≡ toldAll w (take n (drop a ls)) s
+unfolding places toldAll
+told-places w zero a ls s = refl
+told-places w (suc n) a ls s = go (decLt a (length ls)) (told-places w n (suc a) ls)
   where
-    go : Dec (a < length ls) → ((s : State) → endedAll (places n (suc a) ls) s ≡ endedAll (take n (drop (suc a) ls)) s)
-        → endedAll (getD ls a 0 ∷ places n (suc a) ls) s ≡ endedAll (take (suc n) (drop a ls)) s
-    go (yes h) ih = rw (drop-cons ls a 0 h, ih (moved (getD ls a 0) (ended (task s (getD ls a 0)) dlt) s))
+    go : Dec (a < length ls) → ((s : State) → toldAll w (places n (suc a) ls) s ≡ toldAll w (take n (drop (suc a) ls)) s)
+        → toldAll w (getD ls a 0 ∷ places n (suc a) ls) s ≡ toldAll w (take (suc n) (drop a ls)) s
+    go (yes h) ih = rw (drop-cons ls a 0 h, ih (moved (getD ls a 0) (told w (task s (getD ls a 0))) s))
     go (no h) ih = rw (drop-of-length-le ls {i = a} (omega arith), List·getD-eq-default ls 0 {n = a} (omega arith))
 
-pub ended-row : (l : ℕ) (ls : List ℕ) (s : State) → endedAll (places 24 (l * 24) ls) s ≡ endedAll (row ls l) s
+pub told-row : (w : News) (l : ℕ) (ls : List ℕ) (s : State) → toldAll w (places 24 (l * 24) ls) s ≡ toldAll w (row ls l) s
 unfolding row
-ended-row l ls s = ended-places 24 (l * 24) ls s
+told-row w l ls s = told-places w 24 (l * 24) ls s

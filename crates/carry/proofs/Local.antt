@@ -8,9 +8,10 @@ use lib.Dec.{eqb, ltb}
 use lib.ListN.{getD, set}
 use Rattle.model.specs.declared.Task.{Task}
 use Rattle.model.specs.declared.State.{State}
-use Rattle.model.specs.Task.{noTask, aged, ended, dormant, activated, dlt}
+use Rattle.model.specs.declared.News.{News}
+use Rattle.model.specs.Task.{noTask, aged, told, dormant, activated}
 use Rattle.model.specs.State.{task, slice, charge, moved, rotated, withCharge, withTime}
-use Rattle.model.specs.Effect.{stopped, endedAll, lapsed, chargedLevel, charged}
+use Rattle.model.specs.Effect.{stopped, toldAll, lapsed, chargedLevel, charged}
 use Rattle.effects.specs.Parts.{listed, rated, stateOf}
 
 -- ---- tasks and queues
@@ -19,7 +20,7 @@ bare s = listed (s .tasks) (s .levels) (s .waits)
 
 -- the tasks and queues of b, and all else of s
 abbrev pub merged : State → State → State
-merged b s = stateOf (b .tasks) (b .levels) (b .waits) (s .slices) (s .charges) (s .counts) (s .maxima) (s .time)
+merged b s = stateOf (b .tasks) (b .levels) (b .waits) (s .slices) (s .charges) (s .counts) (s .maxima) (s .attributes) (s .bits) (s .time)
 
 pub moved-local : (t : ℕ) (x : Task) (s : State) → moved t x s ≡ merged (moved t x (bare s)) s
 unfolding moved
@@ -34,13 +35,13 @@ stopped-local t s = go (eqb (task s t .activations) 0)
     go true = refl
     go false = refl
 
-pub ended-local : (q : List ℕ) (s : State) → endedAll q s ≡ merged (endedAll q (bare s)) s
-unfolding endedAll moved
-ended-local [] s = refl
-ended-local (t ∷ q) s = go (eqb t 0) (ended-local q (moved t (ended (task s t) dlt) s))
+pub told-local : (w : News) (q : List ℕ) (s : State) → toldAll w q s ≡ merged (toldAll w q (bare s)) s
+unfolding toldAll moved
+told-local w [] s = refl
+told-local w (t ∷ q) s = go (eqb t 0) (told-local w q (moved t (told w (task s t)) s))
   where
-    go : (b : Bool) → endedAll q (moved t (ended (task s t) dlt) s) ≡ merged (endedAll q (bare (moved t (ended (task s t) dlt) s))) s
-        → cond b s (endedAll q (moved t (ended (task s t) dlt) s)) ≡ merged (cond b (bare s) (endedAll q (moved t (ended (task s t) dlt) (bare s)))) s
+    go : (b : Bool) → toldAll w q (moved t (told w (task s t)) s) ≡ merged (toldAll w q (bare (moved t (told w (task s t)) s))) s
+        → cond b s (toldAll w q (moved t (told w (task s t)) s)) ≡ merged (cond b (bare s) (toldAll w q (moved t (told w (task s t)) (bare s)))) s
     go true ih = refl
     go false ih = ih
 
@@ -52,7 +53,7 @@ lapsed-local (suc n) t s = lapsed-local n (suc t) (moved t (aged (task s t)) s)
 -- ---- levels and charges
 -- the levels and charges of b, and all else of s
 abbrev pub recharged : State → State → State
-recharged b s = stateOf (s .tasks) (b .levels) (s .waits) (s .slices) (b .charges) (s .counts) (s .maxima) (s .time)
+recharged b s = stateOf (s .tasks) (b .levels) (s .waits) (s .slices) (b .charges) (s .counts) (s .maxima) (s .attributes) (s .bits) (s .time)
 
 pub level-local : (l : ℕ) (s : State) → chargedLevel l s ≡ recharged (chargedLevel l (rated (s .levels) (s .slices) (s .charges))) s
 unfolding chargedLevel rotated

@@ -4,11 +4,11 @@ ghost use mathlib.Core.Path.{_≡_};
 ghost use mathlib.Core.Bool.{cond};
 ghost use Prim.Native.Nat.{_*_};
 ghost use lib.Dec.{eqb};
-ghost use lib.ListN.{getD};
 ghost use Rattle.model.specs.State.{moved};
 ghost use Rattle.model.specs.Effect.{carried, stopped, chargedLevel};
 ghost use Rattle.effects.specs.Parts.{listed, rated, places, stateOf};
 use model::Effect;
+use model::News;
 use model::Task;
 
 // ---- one task moves
@@ -46,15 +46,6 @@ pub fn stop_task(tasks: [Task; 25], levels: &mut [u8], waits: &mut [u8], t: u8) 
 }
 
 // ---- a queue as it stands, with zeros for what is past the table
-fn byte_at(ls: &[u8], i: usize) -> u8
-    ensures { λ r. ⌜ r ≡ getD (now (ls .entry)) i 0 ⌝ }
-{
-    if i < ls.len() {
-        return ls[i];
-    }
-    0
-}
-
 pub fn copy_row(ls: &[u8], l: u8) -> [u8; 24]
     ensures { λ r. ⌜ r ≡ places 24 (l * 24) (now (ls .entry)) ⌝ }
 {
@@ -62,7 +53,7 @@ pub fn copy_row(ls: &[u8], l: u8) -> [u8; 24]
     let mut r = [0u8; 24];
     let mut i: usize = 0;
     while i < 24 {
-        r[i] = byte_at(ls, at + i);
+        r[i] = effects::byte_at(ls, at + i);
         i = i + 1;
     }
     r
@@ -87,10 +78,12 @@ pub fn carry(
     charges: &mut [u16],
     counts: &mut [u16],
     maxima: &mut [u16],
+    attributes: &mut [u8],
+    bits: &mut [u32],
     time: &mut u32,
     e: Effect,
 ) -> [Task; 25]
-    ensures { λ r. ⌜ stateOf r (now (levels .exit)) (now (waits .exit)) (now (slices .exit)) (now (charges .exit)) (now (counts .exit)) (now (maxima .exit)) (now (time .exit)) ≡ carried (stateOf tasks (now (levels .entry)) (now (waits .entry)) (now (slices .entry)) (now (charges .entry)) (now (counts .entry)) (now (maxima .entry)) (now (time .entry))) e ⌝ }
+    ensures { λ r. ⌜ stateOf r (now (levels .exit)) (now (waits .exit)) (now (slices .exit)) (now (charges .exit)) (now (counts .exit)) (now (maxima .exit)) (now (attributes .exit)) (now (bits .exit)) (now (time .exit)) ≡ carried (stateOf tasks (now (levels .entry)) (now (waits .entry)) (now (slices .entry)) (now (charges .entry)) (now (counts .entry)) (now (maxima .entry)) (now (attributes .entry)) (now (bits .entry)) (now (time .entry))) e ⌝ }
 {
     match e {
         Effect::Nothing => tasks,
@@ -107,7 +100,7 @@ pub fn carry(
         }
         Effect::Deletes { semaphore } => {
             let q = copy_row(waits, semaphore);
-            let r = effects::end_all(tasks, levels, waits, q);
+            let r = effects::tell_all(tasks, levels, waits, q, News::Deleted);
             effects::put_number(counts, semaphore as usize, 0);
             effects::put_number(maxima, semaphore as usize, 0);
             r
@@ -123,6 +116,27 @@ pub fn carry(
             *time = std::num::wrapping_add_u32(*time, 1);
             charge_running(levels, slices, charges, run, k.priority);
             effects::lapse(tasks, levels, waits)
+        }
+        Effect::Flags {
+            flag,
+            attributes: a,
+            bits: b,
+        } => {
+            effects::put_byte(attributes, flag as usize, a);
+            effects::put_bits(bits, flag as usize, b);
+            tasks
+        }
+        Effect::Tells {
+            flag,
+            news,
+            attributes: a,
+            bits: b,
+        } => {
+            let q = copy_row(waits, records::flag_row(flag));
+            let r = effects::tell_all(tasks, levels, waits, q, news);
+            effects::put_byte(attributes, flag as usize, a);
+            effects::put_bits(bits, flag as usize, b);
+            r
         }
     }
 }

@@ -1,14 +1,36 @@
-// What every service's plan begins with: the ranges of a call's numbers, and the plans that refuse and accept.
-// Each function is a definition of model/specs/Plan, for every value; it rests on model, and on records for the timeout that never ends.
+// What every service's plan begins with: the contexts, the ranges of a call's numbers, and the plans that refuse and accept.
+// Each function is a definition of model/specs/Plan or Call, for every value; it rests on model, and on records for the timeout that never ends.
 ghost use mathlib.Core.Path.{_≡_};
 ghost use Rattle.model.specs.declared.Code.the-variants.{Pending};
-ghost use Rattle.model.specs.declared.Effect.the-variants.{Moves, Counts};
-ghost use Rattle.model.specs.Plan.{within, isTask, isPriority, isSemaphore, isMaximum, isTimeout, isSlice, does, answers, refused};
+ghost use Rattle.model.specs.declared.Effect.the-variants.{Moves, Counts, Flags};
+ghost use Rattle.model.specs.Flag.{isAttributes};
+ghost use Rattle.model.specs.Plan.{within, isTask, isPriority, isSemaphore, isMaximum, isTimeout, isSlice, isFlag, does, answers, gives, refused};
+ghost use Rattle.model.specs.Call.{inT, inI};
 use model::Code;
+use model::Context;
 use model::Effect;
 use model::Plan;
 use model::Task;
 use records::ENDLESS;
+
+// ---- contexts
+pub fn in_t(c: Context) -> bool
+    ensures { λ r. ⌜ r ≡ inT c ⌝ }
+{
+    match c {
+        Context::T => true,
+        Context::I => false,
+    }
+}
+
+pub fn in_i(c: Context) -> bool
+    ensures { λ r. ⌜ r ≡ inI c ⌝ }
+{
+    match c {
+        Context::T => false,
+        Context::I => true,
+    }
+}
 
 // ---- ranges
 pub fn within(low: u32, n: u32, top: u32) -> bool
@@ -56,12 +78,25 @@ pub fn is_slice(v: u32) -> bool
     v <= 1000
 }
 
+pub fn is_flag(f: u32) -> bool
+    ensures { λ r. ⌜ r ≡ isFlag f ⌝ }
+{
+    within(1, f, 8)
+}
+
+pub fn is_attributes(n: u32) -> bool
+    ensures { λ r. ⌜ r ≡ isAttributes n ⌝ }
+{
+    (n == 0) | ((n == 1) | (n == 3))
+}
+
 // ---- plans
 pub fn refused(code: Code) -> Plan
     ensures { λ r. ⌜ r ≡ refused code ⌝ }
 {
     Plan {
         code: code,
+        value: 0,
         effect: Effect::Nothing,
     }
 }
@@ -71,6 +106,7 @@ pub fn does(effect: Effect) -> Plan
 {
     Plan {
         code: Code::NoErr,
+        value: 0,
         effect: effect,
     }
 }
@@ -80,11 +116,22 @@ pub fn answers(code: Code, effect: Effect) -> Plan
 {
     Plan {
         code: code,
+        value: 0,
         effect: effect,
     }
 }
 
-// ---- the two effects of most services
+pub fn gives(value: u32, effect: Effect) -> Plan
+    ensures { λ r. ⌜ r ≡ gives value effect ⌝ }
+{
+    Plan {
+        code: Code::NoErr,
+        value: value,
+        effect: effect,
+    }
+}
+
+// ---- the effects of most services
 pub fn moves(task: u8, k: Task) -> Plan
     ensures { λ r. ⌜ r ≡ does (Moves task k) ⌝ }
 {
@@ -101,6 +148,16 @@ pub fn counts(semaphore: u8, count: u16, maximum: u16) -> Plan
         semaphore: semaphore,
         count: count,
         maximum: maximum,
+    })
+}
+
+pub fn flags(flag: u8, attributes: u8, bits: u32) -> Plan
+    ensures { λ r. ⌜ r ≡ does (Flags flag attributes bits) ⌝ }
+{
+    does(Effect::Flags {
+        flag: flag,
+        attributes: attributes,
+        bits: bits,
     })
 }
 

@@ -1,4 +1,4 @@
--- Moves in the tables of tasks and queues, and the loops made of them: a tick's timeouts, the waiters of a deleted semaphore.
+-- Moves in the tables of tasks and queues, and the loops made of them: a tick's timeouts, the news to those in a queue.
 -- Each law says what one turn of a loop leaves to do; they rest on the definitions alone.
 use mathlib.Core.Path.{_≡_, refl, sym, ap, _∙_}
 use mathlib.Core.List.{List, [], _∷_, map}
@@ -10,10 +10,11 @@ use lib.Seq.{set-getD, drop-cons}
 use borrow.Author.Tests.{eq-eqb, ne-eqb}
 use Rattle.model.specs.declared.Task.{Task}
 use Rattle.model.specs.declared.State.{State}
+use Rattle.model.specs.declared.News.{News}
 use Rattle.model.specs.Row.{relisted}
-use Rattle.model.specs.Task.{noTask, levelOf, rowOf, aged, ended, ranOut, withRemaining, endless, dlt}
+use Rattle.model.specs.Task.{noTask, levelOf, rowOf, aged, ended, told, ranOut, withRemaining, endless}
 use Rattle.model.specs.State.{moved, task}
-use Rattle.model.specs.Effect.{lapsed, endedAll}
+use Rattle.model.specs.Effect.{lapsed, toldAll}
 use Rattle.effects.specs.Parts.{listed}
 
 -- a table of records has as many places as its image, which is what is known of an array of structs
@@ -46,7 +47,7 @@ falling : (x : Task) → (x .remaining ≡ 0 → ⊥) → (x .remaining ≡ endl
 unfolding aged
 falling x z e o = rw (ne-eqb _ _ z, ne-eqb _ _ e, ne-eqb _ _ o)
 
-ending : (x : Task) → (x .remaining ≡ 0 → ⊥) → (x .remaining ≡ endless → ⊥) → x .remaining ≡ 1 → aged x ≡ ended x (ranOut x)
+ending : (x : Task) → (x .remaining ≡ 0 → ⊥) → (x .remaining ≡ endless → ⊥) → x .remaining ≡ 1 → aged x ≡ ended x (ranOut x) 0
 unfolding aged
 ending x z e o = rw (ne-eqb _ _ z, ne-eqb _ _ e, eq-eqb _ _ o)
 
@@ -74,7 +75,7 @@ module _ (r : List Task) (ls ws : List ℕ) (t : ℕ) (w : State) (h : t < 25) (
       (rw (falling (getD r t noTask) z e o) (moved-kept r ls ws t (withRemaining (getD r t noTask) (getD r t noTask .remaining - 1)) refl refl))
 
   pub ends : (x : Task) (v : ℕ) (ls′ ws′ : List ℕ) → (getD r t noTask .remaining ≡ 0 → ⊥) → (getD r t noTask .remaining ≡ endless → ⊥) → getD r t noTask .remaining ≡ 1
-      → v ≡ ranOut (getD r t noTask) → x ≡ ended (getD r t noTask) v
+      → v ≡ ranOut (getD r t noTask) → x ≡ ended (getD r t noTask) v 0
       → ls′ ≡ relisted ls (levelOf (getD r t noTask)) (levelOf x) t → ws′ ≡ relisted ws (rowOf (getD r t noTask)) (rowOf x) t
       → lapsed (25 - (t + 1)) (t + 1) (listed (set r t x) ls′ ws′) ≡ w
   unfolding moved
@@ -86,23 +87,23 @@ pub lapse-end : (t : ℕ) (s w : State) → 25 ≤ t → lapsed (25 - t) t s ≡
 unfolding lapsed
 lapse-end t s w h i = let e : 25 - t ≡ 0 = omega arith in rw e at i
 
--- ---- the waiters of a deleted semaphore
-module _ (q : List ℕ) (i : ℕ) (r : List Task) (ls ws : List ℕ) (w : State) (h : i < length q) (e : endedAll (drop i q) (listed r ls ws) ≡ w) where
+-- ---- the news to those in a queue
+module _ (v : News) (q : List ℕ) (i : ℕ) (r : List Task) (ls ws : List ℕ) (w : State) (h : i < length q) (e : toldAll v (drop i q) (listed r ls ws) ≡ w) where
   -- a 0 ends the queue
   pub over : getD q i 0 ≡ 0 → listed r ls ws ≡ w
-  unfolding endedAll
+  unfolding toldAll
   over z = (rw (drop-cons q i 0 h, eq-eqb _ _ z) refl) ∙ e
 
-  -- the next waiter's wait ends with DLT
-  pub next : (t : ℕ) (k x : Task) (r′ : List Task) (ls′ ws′ : List ℕ) → t ≡ getD q i 0 → (t ≡ 0 → ⊥) → k ≡ getD r t noTask → x ≡ ended k dlt
+  -- the next is told
+  pub next : (t : ℕ) (k x : Task) (r′ : List Task) (ls′ ws′ : List ℕ) → t ≡ getD q i 0 → (t ≡ 0 → ⊥) → k ≡ getD r t noTask → x ≡ told v k
       → r′ ≡ set r t x → ls′ ≡ relisted ls (levelOf k) (levelOf x) t → ws′ ≡ relisted ws (rowOf k) (rowOf x) t
-      → endedAll (drop (i + 1) q) (listed r′ ls′ ws′) ≡ w
-  unfolding endedAll moved
+      → toldAll v (drop (i + 1) q) (listed r′ ls′ ws′) ≡ w
+  unfolding toldAll moved
   next t k x r′ ls′ ws′ d z f g a b c =
-      let j : endedAll (getD q i 0 ∷ drop (suc i) q) (listed r ls ws) ≡ w = rw (drop-cons q i 0 h) at e in
+      let j : toldAll v (getD q i 0 ∷ drop (suc i) q) (listed r ls ws) ≡ w = rw (drop-cons q i 0 h) at e in
       rw (add-one i, a, b, c, g, f) (rw (← d, ne-eqb t 0 z) at j)
 
 -- nobody is left
-pub end : (q : List ℕ) (i : ℕ) (s w : State) → length q ≤ i → endedAll (drop i q) s ≡ w → s ≡ w
-unfolding endedAll
-end q i s w h e = rw (drop-of-length-le q h) at e
+pub end : (v : News) (q : List ℕ) (i : ℕ) (s w : State) → length q ≤ i → toldAll v (drop i q) s ≡ w → s ≡ w
+unfolding toldAll
+end v q i s w h e = rw (drop-of-length-le q h) at e

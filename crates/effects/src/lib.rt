@@ -1,11 +1,14 @@
 // What an effect does to the tables it changes, each lent or handed over by itself: a move in the queues, a charged tick,
-// the timeouts of a tick, the end of a deleted semaphore's waits. It rests on the rows and the records.
+// the timeouts of a tick, the news to those in a queue. It rests on the rows and the records.
 ghost use mathlib.Core.Path.{_≡_};
 ghost use lib.ListN.{getD, set};
 ghost use Rattle.model.specs.Row.{relisted};
 ghost use Rattle.model.specs.Task.{noTask, levelOf, rowOf, ranOut};
-ghost use Rattle.model.specs.Effect.{chargedLevel, lapsed, endedAll};
-ghost use Rattle.effects.specs.Parts.{listed, rated, semaphoreIn};
+ghost use Rattle.model.specs.Flag.{flagRow};
+ghost use Rattle.model.specs.Effect.{chargedLevel, lapsed, toldAll};
+ghost use Rattle.effects.specs.Parts.{listed, rated, semaphoreIn, flagIn};
+use model::Flag;
+use model::News;
 use model::Semaphore;
 use model::Task;
 
@@ -20,6 +23,42 @@ pub fn number_at(ns: &[u16], i: usize) -> u16
 }
 
 pub fn put_number(ns: &mut [u16], i: usize, v: u16)
+    ensures { λ r. ⌜ now (ns .exit) ≡ set (now (ns .entry)) i v ⌝ }
+{
+    if ns.len() <= i {
+        return;
+    }
+    ns[i] = v;
+}
+
+pub fn byte_at(ns: &[u8], i: usize) -> u8
+    ensures { λ r. ⌜ r ≡ getD (now (ns .entry)) i 0 ⌝ }
+{
+    if i < ns.len() {
+        return ns[i];
+    }
+    0
+}
+
+pub fn put_byte(ns: &mut [u8], i: usize, v: u8)
+    ensures { λ r. ⌜ now (ns .exit) ≡ set (now (ns .entry)) i v ⌝ }
+{
+    if ns.len() <= i {
+        return;
+    }
+    ns[i] = v;
+}
+
+pub fn bits_at(ns: &[u32], i: usize) -> u32
+    ensures { λ r. ⌜ r ≡ getD (now (ns .entry)) i 0 ⌝ }
+{
+    if i < ns.len() {
+        return ns[i];
+    }
+    0
+}
+
+pub fn put_bits(ns: &mut [u32], i: usize, v: u32)
     ensures { λ r. ⌜ now (ns .exit) ≡ set (now (ns .entry)) i v ⌝ }
 {
     if ns.len() <= i {
@@ -45,6 +84,27 @@ pub fn semaphore_at(counts: &[u16], maxima: &[u16], waits: &[u8], m: usize) -> S
         count: number_at(counts, m),
         maximum: number_at(maxima, m),
         first: rows::first_of(waits, m),
+    }
+}
+
+// The row of a flag's waiters; a number that names no flag has none.
+fn flag_row(f: usize) -> usize
+    ensures { λ r. ⌜ r ≡ flagRow f ⌝ }
+{
+    if 8 < f {
+        return 0;
+    }
+    records::flag_row(f as u8) as usize
+}
+
+// The flag that a call names.
+pub fn flag_at(attributes: &[u8], bits: &[u32], waits: &[u8], f: usize) -> Flag
+    ensures { λ r. ⌜ r ≡ flagIn (now (attributes .entry)) (now (bits .entry)) (now (waits .entry)) f ⌝ }
+{
+    Flag {
+        attributes: byte_at(attributes, f),
+        bits: bits_at(bits, f),
+        first: rows::first_of(waits, flag_row(f)),
     }
 }
 
@@ -123,7 +183,7 @@ pub fn lapse(tasks: [Task; 25], levels: &mut [u8], waits: &mut [u8]) -> [Task; 2
             continue;
         }
         let k = r[t];
-        let x = records::ended(k, ran_out(k));
+        let x = records::ended(k, ran_out(k), 0);
         requeue(levels, waits, t as u8, k, x);
         r[t] = x;
         t = t + 1;
@@ -131,9 +191,15 @@ pub fn lapse(tasks: [Task; 25], levels: &mut [u8], waits: &mut [u8]) -> [Task; 2
     r
 }
 
-// ---- a deleted semaphore's waiters, in queue order
-pub fn end_all(tasks: [Task; 25], levels: &mut [u8], waits: &mut [u8], q: [u8; 24]) -> [Task; 25]
-    ensures { λ r. ⌜ listed r (now (levels .exit)) (now (waits .exit)) ≡ endedAll q (listed tasks (now (levels .entry)) (now (waits .entry))) ⌝ }
+// ---- those in a queue are told the news, in queue order
+pub fn tell_all(
+    tasks: [Task; 25],
+    levels: &mut [u8],
+    waits: &mut [u8],
+    q: [u8; 24],
+    news: News,
+) -> [Task; 25]
+    ensures { λ r. ⌜ listed r (now (levels .exit)) (now (waits .exit)) ≡ toldAll news q (listed tasks (now (levels .entry)) (now (waits .entry))) ⌝ }
 {
     let mut r = tasks;
     let mut i: usize = 0;
@@ -143,7 +209,7 @@ pub fn end_all(tasks: [Task; 25], levels: &mut [u8], waits: &mut [u8], q: [u8; 2
             return r;
         }
         let k = task_at(r, t as usize);
-        let x = records::ended(k, 10);
+        let x = records::told(news, k);
         requeue(levels, waits, t, k, x);
         if 25 <= t {
             i = i + 1;

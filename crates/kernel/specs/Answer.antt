@@ -4,4 +4,4 @@ use Rattle.model.specs.declared.Answer.{Answer}
 use Rattle.kernel.specs.declared.Stepped.{Stepped}
 
 abbrev pub answerOf : Stepped → State → Answer
-answerOf r s = record { code = r .code; running = r .running; state = s }
+answerOf r s = record { code = r .code; running = r .running; value = r .value; state = s }

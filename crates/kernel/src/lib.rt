@@ -20,11 +20,13 @@ pub fn fresh() -> State
     State {
         tasks: [none; 25],
         levels: [0u8; 744],
-        waits: [0u8; 312],
+        waits: [0u8; 504],
         slices: [0u16; 31],
         charges: [0u16; 31],
         counts: [0u16; 13],
         maxima: [0u16; 13],
+        attributes: [0u8; 9],
+        bits: [0u32; 9],
         time: 0,
     }
 }
@@ -33,6 +35,7 @@ pub fn fresh() -> State
 pub struct Stepped {
     pub code: Code,
     pub running: u8,
+    pub value: u32,
     pub tasks: [Task; 25],
 }
 
@@ -44,17 +47,22 @@ pub fn step_in(
     charges: &mut [u16],
     counts: &mut [u16],
     maxima: &mut [u16],
+    attributes: &mut [u8],
+    bits: &mut [u32],
     time: &mut u32,
     c: Context,
     a: Call,
 ) -> Stepped
-    ensures { λ r. ⌜ answerOf r (stateOf (r .tasks) (now (levels .exit)) (now (waits .exit)) (now (slices .exit)) (now (charges .exit)) (now (counts .exit)) (now (maxima .exit)) (now (time .exit))) ≡ step (stateOf tasks (now (levels .entry)) (now (waits .entry)) (now (slices .entry)) (now (charges .entry)) (now (counts .entry)) (now (maxima .entry)) (now (time .entry))) c a ⌝ }
+    ensures { λ r. ⌜ answerOf r (stateOf (r .tasks) (now (levels .exit)) (now (waits .exit)) (now (slices .exit)) (now (charges .exit)) (now (counts .exit)) (now (maxima .exit)) (now (attributes .exit)) (now (bits .exit)) (now (time .exit))) ≡ step (stateOf tasks (now (levels .entry)) (now (waits .entry)) (now (slices .entry)) (now (charges .entry)) (now (counts .entry)) (now (maxima .entry)) (now (attributes .entry)) (now (bits .entry)) (now (time .entry))) c a ⌝ }
 {
     let run = rows::best(levels);
-    let x = effects::semaphore_at(counts, maxima, waits, plans::named(a));
-    let k = effects::task_at(tasks, plans::subject(a, run, x.first));
-    let p = plans::plan(c, a, run, k, x);
+    let named = plans::named(a);
+    let x = effects::semaphore_at(counts, maxima, waits, named);
+    let y = effects::flag_at(attributes, bits, waits, named);
+    let k = effects::task_at(tasks, plans::subject(a, run, x.first, y.first));
+    let p = plans::plan(c, a, run, k, x, y);
     let code = p.code;
+    let value = p.value;
     let effect = p.effect;
     let next = carry::carry(
         tasks,
@@ -64,6 +72,8 @@ pub fn step_in(
         charges,
         counts,
         maxima,
+        attributes,
+        bits,
         time,
         effect,
     );
@@ -71,6 +81,7 @@ pub fn step_in(
     Stepped {
         code,
         running,
+        value,
         tasks: next,
     }
 }
@@ -86,6 +97,8 @@ pub fn step(s: State, c: Context, a: Call) -> Answer
     let mut charges = s.charges;
     let mut counts = s.counts;
     let mut maxima = s.maxima;
+    let mut attributes = s.attributes;
+    let mut bits = s.bits;
     let mut time = s.time;
     let r = step_in(
         tasks,
@@ -95,6 +108,8 @@ pub fn step(s: State, c: Context, a: Call) -> Answer
         &mut charges,
         &mut counts,
         &mut maxima,
+        &mut attributes,
+        &mut bits,
         &mut time,
         c,
         a,
@@ -104,6 +119,7 @@ pub fn step(s: State, c: Context, a: Call) -> Answer
     Answer {
         code,
         running: r.running,
+        value: r.value,
         state: State {
             tasks: next,
             levels,
@@ -112,6 +128,8 @@ pub fn step(s: State, c: Context, a: Call) -> Answer
             charges,
             counts,
             maxima,
+            attributes,
+            bits,
             time,
         },
     }
@@ -128,6 +146,7 @@ pub fn call(s: State, c: Context, a: Call) -> Answer
     Answer {
         code: Code::Unsound,
         running: 0,
+        value: 0,
         state: s,
     }
 }

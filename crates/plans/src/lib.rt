@@ -1,12 +1,17 @@
 // Every call: which records it looks at, and its plan.
-// Each function is a definition of model/specs/Call, for every value; it rests on plans_task and plans_semaphore.
+// Each function is a definition of model/specs/Call, for every value; it rests on plans_task, plans_semaphore and plans_event.
 ghost use mathlib.Core.Path.{_≡_};
-ghost use Rattle.model.specs.Call.{inT, inI, named, subject, plan};
+ghost use Rattle.model.specs.Call.{named, subject, plan};
+use checks::in_i;
+use checks::in_t;
 use model::Call;
 use model::Context;
+use model::Flag;
 use model::Plan;
 use model::Semaphore;
 use model::Task;
+use plans_event::event_plan;
+use plans_event::event_subject;
 use plans_semaphore::acquire;
 use plans_semaphore::delete::sem_delete;
 use plans_semaphore::polling;
@@ -26,25 +31,7 @@ use plans_task::waits::sleep;
 use plans_task::waits::suspend;
 use plans_task::waits::wakeup;
 
-pub fn in_t(c: Context) -> bool
-    ensures { λ r. ⌜ r ≡ inT c ⌝ }
-{
-    match c {
-        Context::T => true,
-        Context::I => false,
-    }
-}
-
-pub fn in_i(c: Context) -> bool
-    ensures { λ r. ⌜ r ≡ inI c ⌝ }
-{
-    match c {
-        Context::T => false,
-        Context::I => true,
-    }
-}
-
-// The semaphore that a call names, or 0.
+// The semaphore or flag that a call names, or 0.
 pub fn named(a: Call) -> usize
     ensures { λ r. ⌜ r ≡ named a ⌝ }
 {
@@ -72,12 +59,13 @@ pub fn named(a: Call) -> usize
         Call::SemAcquire { semaphore, .. } => semaphore as usize,
         Call::SemPolling { semaphore } => semaphore as usize,
         Call::SemIpolling { semaphore } => semaphore as usize,
+        Call::Event { flag, .. } => flag as usize,
     }
 }
 
-// The task whose record a call looks at: the one it names, the running one, or the first waiter; or 0.
-pub fn subject(a: Call, run: u8, first: u8) -> usize
-    ensures { λ r. ⌜ r ≡ subject a run first ⌝ }
+// The task whose record a call looks at: the one it names, the running one, or the first waiter of the semaphore or flag; or 0.
+pub fn subject(a: Call, run: u8, first: u8, head: u8) -> usize
+    ensures { λ r. ⌜ r ≡ subject a run first head ⌝ }
 {
     match a {
         Call::TaskCreate { task, .. } => task as usize,
@@ -103,12 +91,13 @@ pub fn subject(a: Call, run: u8, first: u8) -> usize
         Call::SemAcquire { .. } => run as usize,
         Call::SemPolling { .. } => 0,
         Call::SemIpolling { .. } => 0,
+        Call::Event { service, .. } => event_subject(service, run, head) as usize,
     }
 }
 
-// A call's plan, from who runs, the subject's record and the named semaphore.
-pub fn plan(c: Context, a: Call, run: u8, k: Task, x: Semaphore) -> Plan
-    ensures { λ r. ⌜ r ≡ plan c a run k x ⌝ }
+// A call's plan, from who runs, the subject's record, and the semaphore and the flag of the number that it names.
+pub fn plan(c: Context, a: Call, run: u8, k: Task, x: Semaphore, y: Flag) -> Plan
+    ensures { λ r. ⌜ r ≡ plan c a run k x y ⌝ }
 {
     let mine_t = in_t(c);
     let mine_i = in_i(c);
@@ -144,5 +133,6 @@ pub fn plan(c: Context, a: Call, run: u8, k: Task, x: Semaphore) -> Plan
         Call::SemAcquire { semaphore, timeout } => acquire(mine_t, semaphore, timeout, run, k, x),
         Call::SemPolling { semaphore } => polling(mine_t, semaphore, x),
         Call::SemIpolling { semaphore } => polling(mine_i, semaphore, x),
+        Call::Event { flag, service } => event_plan(c, flag, service, run, k, y),
     }
 }

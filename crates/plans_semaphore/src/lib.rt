@@ -63,7 +63,7 @@ pub fn signal(mine: bool, semaphore: u32, k: Task, x: Semaphore) -> Plan
         return refused(Code::WContext);
     }
     if first != 0 {
-        return moves(first, ended(k, 0));
+        return moves(first, ended(k, 0, 0));
     }
     if count < maximum {
         let m = semaphore as u8;
@@ -97,7 +97,7 @@ pub fn acquire(mine: bool, semaphore: u32, timeout: u32, run: u8, k: Task, x: Se
     }
     let m = semaphore as u8;
     if count == 0 {
-        return pending(run, waiting(k, 2, m, timeout));
+        return pending(run, waiting(k, 2, m, timeout, 0, 0));
     }
     let n = count - 1;
     counts(m, n, maximum)

@@ -78,7 +78,7 @@ pub fn sleep(mine: bool, timeout: u32, run: u8, k: Task) -> Plan
         return refused(Code::WContext);
     }
     if wakeups == 0 {
-        return pending(run, waiting(k, 1, 0, timeout));
+        return pending(run, waiting(k, 1, 0, timeout, 0, 0));
     }
     moves(run, with_wakeups(k, 0))
 }
@@ -105,7 +105,7 @@ pub fn wakeup(mine: bool, task: u32, k: Task) -> Plan
     }
     let t = task as u8;
     if wait == 1 {
-        return moves(t, ended(k, 0));
+        return moves(t, ended(k, 0, 0));
     }
     if wakeups != 0 {
         return refused(Code::Overflow);
@@ -132,5 +132,5 @@ pub fn release_wait(mine: bool, task: u32, k: Task) -> Plan
         return refused(Code::WContext);
     }
     let t = task as u8;
-    moves(t, ended(k, 11))
+    moves(t, ended(k, 11, 0))
 }

@@ -1,14 +1,16 @@
 -- Laws by which the loops over the tables go on, and what crossing off says of the tasks' own records.
 -- Rests on crossing/proofs/Exactly.
 use mathlib.Core.Path.{_≡_, refl, sym, ap, _∙_}
-use mathlib.Core.Bool.{Bool, true, _&&_}
+use mathlib.Core.Bool.{Bool, true, false, cond, _&&_}
 use mathlib.Core.List.{List, map}
 use Prim.Native.Nat.{ℕ, _+_, _*_, _≤_, _<_}
 use native.Mathlib.Numerals.{add-one}
 use native.Mathlib.Omega.{arith}
+use lib.Dec.{leb}
 use lib.ListN.{length, take, getD, set, length-map, List·getD-map}
 use lib.Seq.{take-suc, take-suc-set, take-all}
 use Rattle.model.specs.declared.Task.{Task}
+use Rattle.model.specs.Flag.{flagRow}
 use Rattle.model.specs.Task.{noTask}
 use Rattle.model.specs.Test.{below, listsExactly}
 use Rattle.crossing.specs.Crossing.{crossesAll}
@@ -26,6 +28,15 @@ below-none f = refl
 -- the length of a field that is an array of structs: for `search (len-of, needs)`
 pub len-of : (X Y : Type 0) (f : X → Y) (l : List X) (n : ℕ) → length (map f l) ≡ n → length l ≡ n
 len-of X Y f l n e = sym (length-map l f) ∙ e
+
+-- a flag's row is one of the 21
+pub row-in : (f : ℕ) → f ≤ 8 → flagRow f ≤ 20
+unfolding flagRow
+row-in f h = go (leb 1 f && leb f 8)
+  where
+    go : (b : Bool) → cond b (f + 12) 0 ≤ 20
+    go true = omega arith
+    go false = omega arith
 
 -- a table that is filled from the front with what g gives of each element
 module _ {A : Type 0} (g : A → ℕ) (xs : List A) where

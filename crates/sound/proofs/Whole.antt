@@ -8,10 +8,11 @@ use lib.ListN.{length}
 use borrow.Author.Tests.{eq-eqb, ne-eqb, not-true, not-false}
 use Rattle.model.specs.declared.Task.{Task}
 use Rattle.model.specs.declared.State.{State}
-use Rattle.model.specs.Row.{firstOf}
+use Rattle.model.specs.Row.{firstOf, secondOf}
+use Rattle.model.specs.Flag.{flagRow}
 use Rattle.model.specs.Task.{noTask, levelOf, rowOf}
-use Rattle.model.specs.State.{task, slice, charge, count, maximum}
-use Rattle.model.specs.Test.{below, isBlank, isTaskSound, isRateSound, isCountSound, isSized, isOrigin, isSound}
+use Rattle.model.specs.State.{task, slice, charge, count, maximum, attribute, bitsOf}
+use Rattle.model.specs.Test.{below, isBlank, isTaskSound, isRateSound, isCountSound, isFlagSound, isUnmet, isSized, isOrigin, isSound}
 use Rattle.crossing.specs.Crossing.{crossesAll}
 use Rattle.crossing.proofs.Tests.{both}
 use Rattle.sound.proofs.Tables.{wanted-exactly}
@@ -45,11 +46,13 @@ none-row = refl
 pub record Sized (s : State) : Type 0 where
   pub tasks# : length (s .tasks) ≡ 25
   pub levels# : length (s .levels) ≡ 744
-  pub waits# : length (s .waits) ≡ 312
+  pub waits# : length (s .waits) ≡ 504
   pub slices# : length (s .slices) ≡ 31
   pub charges# : length (s .charges) ≡ 31
   pub counts# : length (s .counts) ≡ 13
   pub maxima# : length (s .maxima) ≡ 13
+  pub attributes# : length (s .attributes) ≡ 9
+  pub bits# : length (s .bits) ≡ 9
 
 -- what is left of the test where the origin is unused
 abbrev pub tested : State → Bool
@@ -57,8 +60,10 @@ tested s =
     below 25 (λ t. isTaskSound (task s t))
     && (below 31 (λ l. isRateSound (slice s l) (charge s l))
     && (below 13 (λ m. isCountSound (count s m) (maximum s m) (firstOf (s .waits) m))
+    && (below 9 (λ f. isFlagSound (attribute s f) (bitsOf s f) (firstOf (s .waits) (flagRow f)) (secondOf (s .waits) (flagRow f)))
+    && (below 25 (λ t. isUnmet (task s t) (bitsOf s (task s t .object)))
     && (crossesAll 31 0 (s .levels) (map levelOf (s .tasks))
-    && crossesAll 13 0 (s .waits) (map rowOf (s .tasks)))))
+    && crossesAll 21 0 (s .waits) (map rowOf (s .tasks)))))))
 
 module _ (s : State) (origin : Bool) (same : origin ≡ isOrigin s) where
   pub unsound-origin : not origin ≡ true → isSound s ≡ false
@@ -72,7 +77,7 @@ module _ (s : State) (origin : Bool) (same : origin ≡ isOrigin s) where
       let b = both (isBlank (task s 0)) _ o .0 in
       rw (
         ← wanted-exactly levelOf 31 (s .levels) (s .tasks) (z .tasks#) (z .levels#) none-level (blank-level (task s 0) b),
-        ← wanted-exactly rowOf 13 (s .waits) (s .tasks) (z .tasks#) (z .waits#) none-row (blank-row (task s 0) b),
+        ← wanted-exactly rowOf 21 (s .waits) (s .tasks) (z .tasks#) (z .waits#) none-row (blank-row (task s 0) b),
         o,
         z .tasks#,
         z .levels#,
@@ -81,4 +86,6 @@ module _ (s : State) (origin : Bool) (same : origin ≡ isOrigin s) where
         z .charges#,
         z .counts#,
         z .maxima#,
+        z .attributes#,
+        z .bits#,
       )

@@ -4,7 +4,7 @@ ghost use mathlib.Core.Path.{_≡_};
 ghost use mathlib.Core.Bool.{_&&_};
 ghost use lib.Dec.{eqb};
 ghost use Rattle.model.specs.Plan.{within};
-ghost use Rattle.model.specs.Test.{isBlank, isWaitCode, isResting, isWaitSound, isTaskSound, isRateSound, isCountSound};
+ghost use Rattle.model.specs.Test.{isBlank, isWaitCode, isResting, isWaitSound, isAskSound, isTaskSound, isRateSound, isCountSound};
 use model::Task;
 
 fn is_within(low: u8, n: u8, top: u8) -> bool
@@ -25,7 +25,10 @@ fn is_blank(x: Task) -> bool
         & (x.wakeups == 0)
         & (x.activations == 0)
         & (x.code == 0)
+        & (x.mode == 0)
         & (x.remaining == 0)
+        & (x.pattern == 0)
+        & (x.handed == 0)
 }
 
 fn is_wait_code(v: u8) -> bool
@@ -42,6 +45,7 @@ fn is_resting(x: Task) -> bool
         & (x.wakeups == 0)
         & (x.activations == 0)
         & (x.code == 0)
+        & (x.handed == 0)
         & (x.priority == x.base)
 }
 
@@ -53,14 +57,32 @@ fn is_wait_sound(x: Task) -> bool
     let wakeups = x.wakeups;
     let code = x.code;
     let remaining = x.remaining;
+    let handed = x.handed;
     if wait == 0 {
         return (object == 0) & (remaining == 0);
     }
+    let goes_on = (1 <= remaining) & (code == 0) & (handed == 0);
     if wait == 1 {
-        return (1 <= remaining) & (code == 0) & (object == 0) & (wakeups == 0);
+        return goes_on & (object == 0) & (wakeups == 0);
     }
-    let object_fits = is_within(1, object, 12);
-    (1 <= remaining) & (code == 0) & (wait == 2) & object_fits
+    if wait == 2 {
+        let semaphore_fits = is_within(1, object, 12);
+        return goes_on & semaphore_fits;
+    }
+    let flag_fits = is_within(1, object, 8);
+    goes_on & (wait == 3) & flag_fits
+}
+
+fn is_ask_sound(x: Task) -> bool
+    ensures { λ r. ⌜ r ≡ isAskSound x ⌝ }
+{
+    let wait = x.wait;
+    let pattern = x.pattern;
+    let mode = x.mode;
+    if wait == 3 {
+        return (pattern != 0) & (mode <= 1);
+    }
+    (pattern == 0) & (mode == 0)
 }
 
 pub fn task_sound(x: Task) -> bool
@@ -81,6 +103,7 @@ pub fn task_sound(x: Task) -> bool
     let code_fits = is_wait_code(code);
     let resting = is_resting(x);
     let wait_sound = is_wait_sound(x);
+    let ask_sound = is_ask_sound(x);
     base_fits
         & priority_fits
         & (active <= 1)
@@ -90,6 +113,7 @@ pub fn task_sound(x: Task) -> bool
         & code_fits
         & ((active != 0) | resting)
         & wait_sound
+        & ask_sound
 }
 
 pub fn rate_sound(slice: u16, charge: u16) -> bool
@@ -105,9 +129,23 @@ pub fn count_sound(count: u16, maximum: u16, first: u8) -> bool
 }
 
 // Place 0 of every table is unused.
-pub fn is_origin(x: Task, slice: u16, charge: u16, count: u16, maximum: u16) -> bool
-    ensures { λ r. ⌜ r ≡ (isBlank x && (eqb slice 0 && (eqb charge 0 && (eqb count 0 && eqb maximum 0)))) ⌝ }
+pub fn is_origin(
+    x: Task,
+    slice: u16,
+    charge: u16,
+    count: u16,
+    maximum: u16,
+    attributes: u8,
+    bits: u32,
+) -> bool
+    ensures { λ r. ⌜ r ≡ (isBlank x && (eqb slice 0 && (eqb charge 0 && (eqb count 0 && (eqb maximum 0 && (eqb attributes 0 && eqb bits 0)))))) ⌝ }
 {
     let blank = is_blank(x);
-    blank & (slice == 0) & (charge == 0) & (count == 0) & (maximum == 0)
+    blank
+        & (slice == 0)
+        & (charge == 0)
+        & (count == 0)
+        & (maximum == 0)
+        & (attributes == 0)
+        & (bits == 0)
 }

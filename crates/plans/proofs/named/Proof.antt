@@ -94,6 +94,12 @@ enum-known-a-7 c = search needs
 cast-result-7 : tie.Need-cast-result-7
 cast-result-7 c = search needs
 
+enum-known-a-8 : tie.Need-enum-known-a-8
+enum-known-a-8 c = search needs
+
+cast-result-8 : tie.Need-cast-result-8
+cast-result-8 c = search needs
+
 returns : tie.Need-returns
 returns c = rw (c .enum-told .given .1)
 
@@ -163,6 +169,9 @@ returns-22 c = rw (c .before .a6 .given .1)
 returns-23 : tie.Need-returns-23
 returns-23 c = rw (c .before .a7 .given .1)
 
+returns-24 : tie.Need-returns-24
+returns-24 c = rw (c .before .a8 .given .1)
+
 pub named-spec : {M : Type 1} → statement M
 named-spec =
     tie.close
@@ -197,6 +206,8 @@ named-spec =
     cast-result-6
     enum-known-a-7
     cast-result-7
+    enum-known-a-8
+    cast-result-8
     returns
     returns-2
     returns-3
@@ -219,4 +230,5 @@ named-spec =
     returns-20
     returns-21
     returns-22
-    returns-23)
+    returns-23
+    returns-24)

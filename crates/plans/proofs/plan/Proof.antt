@@ -149,6 +149,12 @@ enum-known-a-21 c = search needs
 polling-requires-2 : tie.Need-polling-requires-2
 polling-requires-2 c κs = search needs
 
+enum-known-a-22 : tie.Need-enum-known-a-22
+enum-known-a-22 c = search needs
+
+event-plan-requires : tie.Need-event-plan-requires
+event-plan-requires c κs = search needs
+
 returns : tie.Need-returns
 unfolding plan
 returns c = rw (c .create .ensures, c .before .before .before .before .before .in-t .ensures, c .before .before .a .given .1)
@@ -241,6 +247,10 @@ returns-23 : tie.Need-returns-23
 unfolding plan
 returns-23 c = rw (c .polling2 .ensures, c .before .before .before .before .in-i .ensures, c .before .before .a21 .given .1)
 
+returns-24 : tie.Need-returns-24
+unfolding plan
+returns-24 c = rw (c .event-plan .ensures, c .before .before .a22 .given .1)
+
 pub plan-spec : {M : Type 1} → statement M
 plan-spec =
     tie.close
@@ -293,6 +303,8 @@ plan-spec =
     polling-requires
     enum-known-a-21
     polling-requires-2
+    enum-known-a-22
+    event-plan-requires
     returns
     returns-2
     returns-3
@@ -315,4 +327,5 @@ plan-spec =
     returns-20
     returns-21
     returns-22
-    returns-23)
+    returns-23
+    returns-24)

@@ -109,6 +109,15 @@ enum-told-10 c = search needs
 enum-told-11 : tie.Need-enum-told-11
 enum-told-11 c = search needs
 
+enum-known-a-13 : tie.Need-enum-known-a-13
+enum-known-a-13 c = search needs
+
+event-subject-requires : tie.Need-event-subject-requires
+event-subject-requires c κs = search needs
+
+cast-result-13 : tie.Need-cast-result-13
+cast-result-13 c = search needs
+
 returns : tie.Need-returns
 returns c = rw (c .before .a .given .1)
 
@@ -178,6 +187,9 @@ returns-22 c = rw (c .enum-told10 .given .1)
 returns-23 : tie.Need-returns-23
 returns-23 c = rw (c .enum-told11 .given .1)
 
+returns-24 : tie.Need-returns-24
+returns-24 c = rw (c .event-subject .ensures, c .before .before .a13 .given .1)
+
 pub subject-spec : {M : Type 1} → statement M
 subject-spec =
     tie.close
@@ -217,6 +229,9 @@ subject-spec =
     enum-told-9
     enum-told-10
     enum-told-11
+    enum-known-a-13
+    event-subject-requires
+    cast-result-13
     returns
     returns-2
     returns-3
@@ -239,4 +254,5 @@ subject-spec =
     returns-20
     returns-21
     returns-22
-    returns-23)
+    returns-23
+    returns-24)

@@ -12,7 +12,7 @@ use Rattle.sound.proofs.counts_sound.Statement.{statement}
 use Rattle.sound.proofs.counts_sound.Tie as tie
 
 abbrev Inv-loop : tie.InvT-loop
-Inv-loop counts maxima waits sound₀ m₀ sound m = (length counts ≡ 13) × (length maxima ≡ 13) × (length waits ≡ 312) × (m ≤ 13) × (sound ≡ below m (λ k. isCountSound (getD counts k 0) (getD maxima k 0) (firstOf waits k)))
+Inv-loop counts maxima waits sound₀ m₀ sound m = (length counts ≡ 13) × (length maxima ≡ 13) × (length waits ≡ 504) × (m ≤ 13) × (sound ≡ below m (λ k. isCountSound (getD counts k 0) (getD maxima k 0) (firstOf waits k)))
 
 abbrev μ-loop : tie.MeasureT-loop
 μ-loop counts maxima waits sound₀ m₀ sound m = 13 - m

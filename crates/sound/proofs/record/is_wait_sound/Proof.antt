@@ -16,7 +16,17 @@ is-within-requires : tie.Need-is-within-requires
 is-within-requires c κs = search needs
 
 returns-3 : tie.Need-returns-3
-returns-3 c = rw (c .is-within .ensures, ne-eqb _ _ (c .before .before .if1 .left), ne-eqb _ _ (c .before .if2 .left)) (simp and-assoc)
+returns-3 c =
+    rw (c .is-within .ensures, ne-eqb _ _ (c .before .before .before .if1 .left), ne-eqb _ _ (c .before .before .if2 .left), eq-eqb _ _ (c .before .if3 .taken))
+    (simp and-assoc)
+
+is-within-requires-2 : tie.Need-is-within-requires-2
+is-within-requires-2 c κs = search needs
+
+returns-4 : tie.Need-returns-4
+returns-4 c =
+    rw (c .is-within2 .ensures, ne-eqb _ _ (c .before .before .before .if1 .left), ne-eqb _ _ (c .before .before .if2 .left), ne-eqb _ _ (c .before .if3 .left))
+    (simp and-assoc)
 
 pub is-wait-sound-spec : {M : Type 1} → statement M
-is-wait-sound-spec = tie.close (tie.spec returns returns-2 is-within-requires returns-3)
+is-wait-sound-spec = tie.close (tie.spec returns returns-2 is-within-requires returns-3 is-within-requires-2 returns-4)

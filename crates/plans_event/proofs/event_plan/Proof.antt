@@ -1,0 +1,136 @@
+-- `plans_event::event_plan` meets its contract: service by service.
+-- It rests on the contracts of the services.
+use borrow.Author.Needs.{needs}
+use Rattle.model.specs.Call.{eventPlan}
+use Rattle.plans_event.proofs.event_plan.Statement.{statement}
+use Rattle.plans_event.proofs.event_plan.Tie as tie
+
+in-t-requires : tie.Need-in-t-requires
+in-t-requires c κs = search needs
+
+in-i-requires : tie.Need-in-i-requires
+in-i-requires c κs = search needs
+
+enum-known-service : tie.Need-enum-known-service
+enum-known-service c = search needs
+
+event-create-requires : tie.Need-event-create-requires
+event-create-requires c κs = search needs
+
+enum-told : tie.Need-enum-told
+enum-told c = search needs
+
+event-delete-requires : tie.Need-event-delete-requires
+event-delete-requires c κs = search needs
+
+enum-known-service-2 : tie.Need-enum-known-service-2
+enum-known-service-2 c = search needs
+
+event-set-requires : tie.Need-event-set-requires
+event-set-requires c κs = search needs
+
+enum-known-service-3 : tie.Need-enum-known-service-3
+enum-known-service-3 c = search needs
+
+event-set-requires-2 : tie.Need-event-set-requires-2
+event-set-requires-2 c κs = search needs
+
+enum-known-service-4 : tie.Need-enum-known-service-4
+enum-known-service-4 c = search needs
+
+event-clear-requires : tie.Need-event-clear-requires
+event-clear-requires c κs = search needs
+
+enum-known-service-5 : tie.Need-enum-known-service-5
+enum-known-service-5 c = search needs
+
+event-clear-requires-2 : tie.Need-event-clear-requires-2
+event-clear-requires-2 c κs = search needs
+
+enum-known-service-6 : tie.Need-enum-known-service-6
+enum-known-service-6 c = search needs
+
+event-wait-requires : tie.Need-event-wait-requires
+event-wait-requires c κs = search needs
+
+enum-known-service-7 : tie.Need-enum-known-service-7
+enum-known-service-7 c = search needs
+
+event-poll-requires : tie.Need-event-poll-requires
+event-poll-requires c κs = search needs
+
+enum-known-service-8 : tie.Need-enum-known-service-8
+enum-known-service-8 c = search needs
+
+event-poll-requires-2 : tie.Need-event-poll-requires-2
+event-poll-requires-2 c κs = search needs
+
+returns : tie.Need-returns
+unfolding eventPlan
+returns c = rw (c .event-create .ensures, c .before .before .before .before .before .in-t .ensures, c .before .before .service .given .1)
+
+returns-2 : tie.Need-returns-2
+unfolding eventPlan
+returns-2 c = rw (c .event-delete .ensures, c .before .before .before .before .in-t .ensures, c .before .enum-told .given .1)
+
+returns-3 : tie.Need-returns-3
+unfolding eventPlan
+returns-3 c = rw (c .event-set .ensures, c .before .before .before .before .before .in-t .ensures, c .before .before .service2 .given .1)
+
+returns-4 : tie.Need-returns-4
+unfolding eventPlan
+returns-4 c = rw (c .event-set2 .ensures, c .before .before .before .before .in-i .ensures, c .before .before .service3 .given .1)
+
+returns-5 : tie.Need-returns-5
+unfolding eventPlan
+returns-5 c = rw (c .event-clear .ensures, c .before .before .before .before .before .in-t .ensures, c .before .before .service4 .given .1)
+
+returns-6 : tie.Need-returns-6
+unfolding eventPlan
+returns-6 c = rw (c .event-clear2 .ensures, c .before .before .before .before .in-i .ensures, c .before .before .service5 .given .1)
+
+returns-7 : tie.Need-returns-7
+unfolding eventPlan
+returns-7 c = rw (c .event-wait .ensures, c .before .before .before .before .before .in-t .ensures, c .before .before .service6 .given .1)
+
+returns-8 : tie.Need-returns-8
+unfolding eventPlan
+returns-8 c = rw (c .event-poll .ensures, c .before .before .before .before .before .in-t .ensures, c .before .before .service7 .given .1)
+
+returns-9 : tie.Need-returns-9
+unfolding eventPlan
+returns-9 c = rw (c .event-poll2 .ensures, c .before .before .before .before .in-i .ensures, c .before .before .service8 .given .1)
+
+pub event-plan-spec : {M : Type 1} → statement M
+event-plan-spec =
+    tie.close
+    (tie.spec
+    in-t-requires
+    in-i-requires
+    enum-known-service
+    event-create-requires
+    enum-told
+    event-delete-requires
+    enum-known-service-2
+    event-set-requires
+    enum-known-service-3
+    event-set-requires-2
+    enum-known-service-4
+    event-clear-requires
+    enum-known-service-5
+    event-clear-requires-2
+    enum-known-service-6
+    event-wait-requires
+    enum-known-service-7
+    event-poll-requires
+    enum-known-service-8
+    event-poll-requires-2
+    returns
+    returns-2
+    returns-3
+    returns-4
+    returns-5
+    returns-6
+    returns-7
+    returns-8
+    returns-9)
