@@ -31,11 +31,11 @@ use Rattle.lines.specs.Lines.{letterOf, letterThen, nameThen, fieldsThen
 use Rattle.lines.proofs.Table.{long, both-left, both-right}
 
 -- each answer's length is at least that
-abbrev NameHas : Name → Type 0
+abbrev pub NameHas : Name → Type 0
 NameHas (Known k takes i) = 13 ≤ i
 NameHas Unknown = Unit
 
-abbrev NumberHas : Number → Type 0
+abbrev pub NumberHas : Number → Type 0
 NumberHas (Digits v n) = 1 ≤ n
 NumberHas NoNumber = Unit
 
@@ -66,11 +66,11 @@ name-among (x ∷ xs) t k s =
     cond-by NameHas (begins s (label x)) (Known k (x .takes) (length (label x))) (nameIn xs (k + 1) s)
     (λ e. leb→le 13 (length (label x)) (both-left (leb 13 (length (label x))) (long xs) t)) (name-among xs (both-right (leb 13 (length (label x))) (long xs) t) (k + 1) s)
 
-name-has : (s : List ℕ) → NameHas (nameOf s)
+pub name-has : (s : List ℕ) → NameHas (nameOf s)
 unfolding nameOf services tasks system semaphores events long label
 name-has s = name-among services tt 0 s
 
-comma-has : (used : Bool) (s : List ℕ) → NumberHas (commaField used s)
+pub comma-has : (used : Bool) (s : List ℕ) → NumberHas (commaField used s)
 unfolding commaField
 comma-has used s = go (fieldOf used s)
   where
