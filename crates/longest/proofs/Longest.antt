@@ -4,7 +4,6 @@ use mathlib.Core.Path.{_≡_, refl}
 use mathlib.Core.Bool.{Bool, true, false, cond}
 use mathlib.Core.List.{List, [], _∷_}
 use Prim.Native.Nat.{ℕ, zero, suc, _+_, _-_, _*_, _≤_, _<_}
-use native.Mathlib.Nat.{mul-suc, mul-zero}
 use native.Mathlib.Omega.{arith}
 use native.Mathlib.Decide.{decLt}
 use lib.Dec.{eqb, ltb}
@@ -39,9 +38,20 @@ use Rattle.longest.proofs.Rows.{digits-grow, digits-all, all-most}
 abbrev size : Bool → ℕ
 size wide = 18 + extra wide
 
+extra-most : (wide : Bool) → extra wide ≤ 1
+extra-most true = omega arith
+extra-most false = omega arith
+
+-- a line of n bytes before the rows of what follows it
+one-more : (wide : Bool) (rows n l : ℕ) → Dec (n < l) → 17 + extra wide ≤ n → n ≤ l → (n < l → size wide ≤ n) → size wide * rows ≤ l - n + 1 → size wide * suc rows ≤ l + 1
+one-more true rows n l (yes h) has inside ends ih = omega (arith, ends h)
+one-more true rows n l (no h) has inside ends ih = omega arith
+one-more false rows n l (yes h) has inside ends ih = omega (arith, ends h)
+one-more false rows n l (no h) has inside ends ih = omega arith
+
 in-few : (by : State → Context → Call → Answer) (wide : Bool) (s : List ℕ) (k l : ℕ) (from : State) → size wide * length (rowsBy by from (scriptIn wide k s l)) ≤ length s - k + 1
 unfolding scriptIn rowsBy
-in-few by wide [] k l from = omega (arith, mul-zero (size wide))
+in-few by wide [] k l from = omega arith
 in-few by wide (b ∷ s) (suc k) l from = omega (arith, in-few by wide s k l from)
 in-few by wide (b ∷ s) zero l from =
     omega (arith, go (lineOf wide (b ∷ s)) (line-has wide (b ∷ s)) (line-in wide (b ∷ s)) (line-ends wide (b ∷ s)) (λ n to. in-few by wide s n (l + 1) to))
@@ -49,15 +59,9 @@ in-few by wide (b ∷ s) zero l from =
     go : (t : Line) → LineHas wide t → LineIn t (length (b ∷ s)) → LineEnds wide t (length (b ∷ s))
         → ((n : ℕ) (to : State) → size wide * length (rowsBy by to (scriptIn wide n s (l + 1))) ≤ length s - n + 1)
         → size wide * length (rowsBy by from (lineThen t l (λ x c n. next x c (scriptIn wide (n - 1) s (l + 1))))) ≤ suc (length s) + 1
-    go (Reads x c n) has inside ends ih = more (decLt n (suc (length s)))
-      where
-        rows : ℕ
-        rows = length (rowsBy by (by from x c .state) (scriptIn wide (n - 1) s (l + 1)))
-
-        more : Dec (n < suc (length s)) → size wide * suc rows ≤ suc (length s) + 1
-        more (yes h) = omega (arith, mul-suc (size wide) rows, ends h, ih (n - 1) (by from x c .state))
-        more (no h) = omega (arith, mul-suc (size wide) rows, ih (n - 1) (by from x c .state))
-    go NoLine has inside ends ih = omega (arith, mul-zero (size wide))
+    go (Reads x c n) has inside ends ih =
+        one-more wide (length (rowsBy by (by from x c .state) (scriptIn wide (n - 1) s (l + 1)))) n (suc (length s)) (decLt n (suc (length s))) has (inside .1) ends (omega (arith, ih (n - 1) (by from x c .state)))
+    go NoLine has inside ends ih = omega arith
 
 -- the bytes that are left for them after the header
 after-header : (file : List ℕ) → length file ≤ 65536 → (wide : Bool) (h : ℕ) → headerOf file ≡ Ends wide h → size wide * length (rowsOf (scriptIn wide h file 2)) ≤ 65519 - 2 * extra wide
@@ -70,8 +74,8 @@ after-header file fits wide h e = more (decLt h (length file))
     ends = rw e at (header-ends file)
 
     more : Dec (h < length file) → size wide * length (rowsOf (scriptIn wide h file 2)) ≤ 65519 - 2 * extra wide
-    more (yes p) = omega (arith, ends p, in-few Calls.call wide file h 2 fresh)
-    more (no p) = omega (arith, has, in-few Calls.call wide file h 2 fresh)
+    more (yes p) = omega (arith, ends p, extra-most wide, in-few Calls.call wide file h 2 fresh)
+    more (no p) = omega (arith, has, extra-most wide, in-few Calls.call wide file h 2 fresh)
 
 pub few-wide-calls : FewWideCalls
 unfolding scriptOf

@@ -33,8 +33,7 @@ reaches : (c : tie.After-context Inv-loop μ-loop) → let l = c .before .before
     (l .loop .at + c .context .given .0 .1 .1 .0 ≤ length (l .before .before .before .args .file .now)) × (0 < c .context .given .0 .1 .1 .0) × (l .loop .n < 4096)
 reaches c =
     let l = c .before .before .before .before .before in
-    let b = l .before .before .before in
-    (
+    let b = l .before .before .before in (
       law.reaches (b .args .wide) (b .args .file .now) (b .args .h) (l .loop .codes) (l .loop .runs) (l .loop .at) (l .loop .n) (l .loop .total) _ (b .pre .2) (l .loop .inv .0) (c .before .before .before .before .loop-test .taken) _ _ _ (reads c),
       law.moves (b .args .wide) (b .args .file .now) (b .args .h) (l .loop .codes) (l .loop .runs) (l .loop .at) (l .loop .n) (l .loop .total) _ (b .pre .2) (l .loop .inv .0) (c .before .before .before .before .loop-test .taken) _ _ _ (reads c),
       law.keeps (b .args .wide) (b .args .file .now) (b .args .h) (l .loop .codes) (l .loop .runs) (l .loop .at) (l .loop .n) (l .loop .total) _ (b .pre .2) (l .loop .inv .0) (c .before .before .before .before .loop-test .taken) _ _ _ (reads c),
@@ -138,8 +137,7 @@ loop-again : tie.Need-loop-again Inv-loop μ-loop
 loop-again c =
     let k = c .before .before .before .before .before .before .before .before .before .before .before .before .before .before .before .before .before .before .before .before .before .before in
     let l = k .before .before .before .before .before in
-    let b = l .before .before .before in
-    (
+    let b = l .before .before .before in (
       law.turns (b .args .wide) (b .args .file .now) (b .args .h) (l .loop .codes) (l .loop .runs) (l .loop .at) (l .loop .n) (l .loop .total) _ (b .pre .2) (l .loop .inv .0) (k .before .before .before .before .loop-test .taken) _ _ _ (reads k) _ _ _ (c .before .before .before .before .before .before .before .before .before .before .before .step-in .ensures) (c .before .slot .ensures) (c .row-width .ensures .0) (c .row-width .ensures .1),
       c .before .before .before .before .before .before .before .before .before .before .levels2 .given,
       c .before .before .before .before .before .before .before .before .before .waits2 .given,
