@@ -1,16 +1,19 @@
--- Each change of model/specs/State keeps a sound state sound: a task moved, a semaphore counted, a level sliced, charged or turned, the time.
+-- Each change of model/specs/State keeps a sound state sound: a task moved, a semaphore counted, a flag set, a level sliced, charged or turned, the time.
 -- It rests on the tables' laws in Listed; what a change asks for is a condition on the numbers it stores.
 use mathlib.Core.Path.{_≡_, refl, sym, ap, _∙_, subst}
 use mathlib.Core.List.{List}
 use mathlib.Core.Logic.{_⊎_, inl, inr, ⊎-elim}
-use Prim.Native.Nat.{ℕ, _≤_, _<_}
+use mathlib.Core.Bool.{false}
+use Prim.Native.Nat.{ℕ, _+_, _≤_, _<_}
 use native.Mathlib.Omega.{arith}
+use lib.Dec.{T}
 use lib.ListN.{length, getD, set, length-set, List·getD-eq-default}
 use lib.Seq.{getD-set-same, getD-set-other, set-out}
 use Rattle.model.specs.declared.Task.{Task}
 use Rattle.model.specs.declared.State.{State}
+use Rattle.model.specs.Flag.{areKept, isSingle, isMet}
 use Rattle.model.specs.Task.{noTask, levelOf, rowOf}
-use Rattle.model.specs.State.{task, slice, count, maximum, moved, counted, sliced, withCharge, rotated, withTime}
+use Rattle.model.specs.State.{task, slice, count, maximum, attribute, bitsOf, moved, counted, flagged, sliced, withCharge, rotated, withTime}
 use Rattle.model.specs.Sound.{SoundTask, Sound}
 use Rattle.laws.proofs.Number.{same?, below?}
 use Rattle.kept.proofs.Listed.{lists-relisted, lists-turned}
@@ -40,9 +43,12 @@ task-in key z s k t h =
     (omega arith, omega arith)
 
 -- ---- a task moves
--- whoever waits on a semaphore finds it created and its count 0
-abbrev pub MayWait : State → Task → Type 0
-MayWait s x = (m : ℕ) → 1 ≤ m → rowOf x ≡ m → (count s m ≡ 0) × (1 ≤ maximum s m)
+-- task t with record x may wait as that says: on a created semaphore with count 0, or on a created flag whose bits do not meet x,
+-- on SINGLE alone
+pub record MayWait (s : State) (t : ℕ) (x : Task) : Type 0 where
+  pub waited : (m : ℕ) → 1 ≤ m → m ≤ 12 → rowOf x ≡ m → (count s m ≡ 0) × (1 ≤ maximum s m)
+  pub unmet : (f : ℕ) → 1 ≤ f → f ≤ 8 → rowOf x ≡ f + 12 → (1 ≤ attribute s f) × (isMet (x .pattern) (x .mode) (bitsOf s f) ≡ false)
+  pub single : (f u : ℕ) → 1 ≤ f → f ≤ 8 → T (isSingle (attribute s f)) → rowOf x ≡ f + 12 → rowOf (task s u) ≡ f + 12 → u ≡ t
 
 module _ (s : State) (k : Sound s) (t : ℕ) (x : Task) (some : 1 ≤ t) (top : t ≤ 24) where
   pub task-same : task (moved t x s) t ≡ x
@@ -59,7 +65,7 @@ module _ (s : State) (k : Sound s) (t : ℕ) (x : Task) (some : 1 ≤ t) (top : 
       (λ (other : u ≡ t → ⊥). subst P (sym (task-other u other)) (else other))
       (same? u t)
 
-  module _ (sound : SoundTask x) (may : MayWait s x) where
+  module _ (sound : SoundTask x) (may : MayWait s t x) where
     pub sound-moved : Sound (moved t x s)
     unfolding moved levelOf rowOf
     sound-moved = record {
@@ -68,17 +74,25 @@ module _ (s : State) (k : Sound s) (t : ℕ) (x : Task) (some : 1 ≤ t) (top : 
       charges# = k .charges#;
       counts# = k .counts#;
       maxima# = k .maxima#;
-      origin = (task-other 0 (λ e. omega arith) ∙ k .origin .0, k .origin .1, k .origin .2, k .origin .3, k .origin .4);
+      attributes# = k .attributes#;
+      bits# = k .bits#;
+      origin = (task-other 0 (λ e. omega arith) ∙ k .origin .0, k .origin .1, k .origin .2, k .origin .3, k .origin .4, k .origin .5, k .origin .6);
       tasks = λ u. task-cases SoundTask u (λ e. sound) (λ other. k .tasks u);
       levels = lists-relisted (s .levels) 31 (λ u. levelOf (task s u)) (k .levels) t (levelOf x) some top (λ u h. ap levelOf (no-task s k u h))
           (λ u. levelOf (task (moved t x s) u)) (ap levelOf task-same) (λ u other. ap levelOf (task-other u other));
-      waits = lists-relisted (s .waits) 13 (λ u. rowOf (task s u)) (k .waits) t (rowOf x) some top (λ u h. ap rowOf (no-task s k u h))
+      waits = lists-relisted (s .waits) 21 (λ u. rowOf (task s u)) (k .waits) t (rowOf x) some top (λ u h. ap rowOf (no-task s k u h))
           (λ u. rowOf (task (moved t x s) u)) (ap rowOf task-same) (λ u other. ap rowOf (task-other u other));
       slices = k .slices;
       charges = k .charges;
       counts = k .counts;
       maxima = k .maxima;
-      waited = λ m u low. task-cases (λ y. rowOf y ≡ m → (count s m ≡ 0) × (1 ≤ maximum s m)) u (λ e. may m low) (λ other. k .waited m u low);
+      waited = λ m u low top. task-cases (λ y. rowOf y ≡ m → (count s m ≡ 0) × (1 ≤ maximum s m)) u (λ e. may .waited m low top) (λ other. k .waited m u low top);
+      attributes = k .attributes;
+      bits = k .bits;
+      unmet = λ f u low top. task-cases (λ y. rowOf y ≡ f + 12 → (1 ≤ attribute s f) × (isMet (y .pattern) (y .mode) (bitsOf s f) ≡ false)) u (λ e. may .unmet f low top) (λ other. k .unmet f u low top);
+      single = λ f u v low top one. task-cases (λ y. rowOf y ≡ f + 12 → rowOf (task (moved t x s) v) ≡ f + 12 → u ≡ v) u
+          (λ e here. task-cases (λ y. rowOf y ≡ f + 12 → u ≡ v) v (λ z _. e ∙ sym z) (λ _ there. e ∙ sym (may .single f v low top one here there)))
+          (λ other there. task-cases (λ y. rowOf y ≡ f + 12 → u ≡ v) v (λ z here. may .single f u low top one here there ∙ sym z) (λ _ here. k .single f u v low top one there here));
     }
 
 -- ---- a semaphore's numbers
@@ -90,7 +104,9 @@ sound-counted s m n v k some low top free = record {
   charges# = k .charges#;
   counts# = length-set (s .counts) m n ∙ k .counts#;
   maxima# = length-set (s .maxima) m v ∙ k .maxima#;
-  origin = (k .origin .0, k .origin .1, k .origin .2, getD-set-other (s .counts) m 0 n 0 (λ e. omega arith) ∙ k .origin .3, getD-set-other (s .maxima) m 0 v 0 (λ e. omega arith) ∙ k .origin .4);
+  attributes# = k .attributes#;
+  bits# = k .bits#;
+  origin = (k .origin .0, k .origin .1, k .origin .2, getD-set-other (s .counts) m 0 n 0 (λ e. omega arith) ∙ k .origin .3, getD-set-other (s .maxima) m 0 v 0 (λ e. omega arith) ∙ k .origin .4, k .origin .5, k .origin .6);
   tasks = k .tasks;
   levels = k .levels;
   waits = k .waits;
@@ -98,11 +114,53 @@ sound-counted s m n v k some low top free = record {
   charges = k .charges;
   counts = λ i. stored-both (λ a b. a ≤ b) (s .counts) (s .maxima) m n v i same (λ e. low) (k .counts i);
   maxima = λ i. stored (λ b. b ≤ 65535) (s .maxima) m v i (λ e. top) (k .maxima i);
-  waited = λ i t h e. stored-both (λ a b. (a ≡ 0) × (1 ≤ b)) (s .counts) (s .maxima) m n v i same (λ z. free t (e ∙ z)) (k .waited i t h e);
+  waited = λ i t h most e. stored-both (λ a b. (a ≡ 0) × (1 ≤ b)) (s .counts) (s .maxima) m n v i same (λ z. free t (e ∙ z)) (k .waited i t h most e);
+  attributes = k .attributes;
+  bits = k .bits;
+  unmet = k .unmet;
+  single = k .single;
 }
   where
     same : length (s .counts) ≡ length (s .maxima)
     same = k .counts# ∙ sym (k .maxima#)
+
+-- ---- a flag's numbers
+-- attributes a and bits b fit those who wait on flag f
+pub record FlagFits (s : State) (f a b : ℕ) : Type 0 where
+  pub kept : T (areKept a)
+  pub none : a ≡ 0 → b ≡ 0
+  pub unmet : (t : ℕ) → rowOf (task s t) ≡ f + 12 → (1 ≤ a) × (isMet (task s t .pattern) (task s t .mode) b ≡ false)
+  pub single : T (isSingle a) → (t u : ℕ) → rowOf (task s t) ≡ f + 12 → rowOf (task s u) ≡ f + 12 → t ≡ u
+
+pub sound-flagged : (s : State) (f a b : ℕ) → Sound s → 1 ≤ f → FlagFits s f a b → Sound (flagged f a b s)
+unfolding flagged
+sound-flagged s f a b k some fits = record {
+  tasks# = k .tasks#;
+  slices# = k .slices#;
+  charges# = k .charges#;
+  counts# = k .counts#;
+  maxima# = k .maxima#;
+  attributes# = length-set (s .attributes) f a ∙ k .attributes#;
+  bits# = length-set (s .bits) f b ∙ k .bits#;
+  origin = (k .origin .0, k .origin .1, k .origin .2, k .origin .3, k .origin .4, getD-set-other (s .attributes) f 0 a 0 (λ e. omega arith) ∙ k .origin .5, getD-set-other (s .bits) f 0 b 0 (λ e. omega arith) ∙ k .origin .6);
+  tasks = k .tasks;
+  levels = k .levels;
+  waits = k .waits;
+  slices = k .slices;
+  charges = k .charges;
+  counts = k .counts;
+  maxima = k .maxima;
+  waited = k .waited;
+  attributes = λ i. stored (λ c. T (areKept c)) (s .attributes) f a i (λ e. fits .kept) (k .attributes i);
+  bits = λ i. stored-both (λ c d. c ≡ 0 → d ≡ 0) (s .attributes) (s .bits) f a b i same (λ e. fits .none) (k .bits i);
+  unmet = λ i t low top e. stored-both (λ c d. (1 ≤ c) × (isMet (task s t .pattern) (task s t .mode) d ≡ false)) (s .attributes) (s .bits) f a b i same
+      (λ z. fits .unmet t (e ∙ ap (λ n. n + 12) z)) (k .unmet i t low top e);
+  single = λ i t u low top. stored (λ c. T (isSingle c) → rowOf (task s t) ≡ i + 12 → rowOf (task s u) ≡ i + 12 → t ≡ u) (s .attributes) f a i
+      (λ z one d e. fits .single one t u (d ∙ ap (λ n. n + 12) z) (e ∙ ap (λ n. n + 12) z)) (k .single i t u low top);
+}
+  where
+    same : length (s .attributes) ≡ length (s .bits)
+    same = k .attributes# ∙ sym (k .bits#)
 
 -- ---- a level's slice and charge
 pub sound-sliced : (s : State) (l v : ℕ) → Sound s → 1 ≤ l → v ≤ 1000 → Sound (sliced l v s)
@@ -113,7 +171,9 @@ sound-sliced s l v k some top = record {
   charges# = length-set (s .charges) l 0 ∙ k .charges#;
   counts# = k .counts#;
   maxima# = k .maxima#;
-  origin = (k .origin .0, getD-set-other (s .slices) l 0 v 0 (λ e. omega arith) ∙ k .origin .1, getD-set-other (s .charges) l 0 0 0 (λ e. omega arith) ∙ k .origin .2, k .origin .3, k .origin .4);
+  attributes# = k .attributes#;
+  bits# = k .bits#;
+  origin = (k .origin .0, getD-set-other (s .slices) l 0 v 0 (λ e. omega arith) ∙ k .origin .1, getD-set-other (s .charges) l 0 0 0 (λ e. omega arith) ∙ k .origin .2, k .origin .3, k .origin .4, k .origin .5, k .origin .6);
   tasks = k .tasks;
   levels = k .levels;
   waits = k .waits;
@@ -122,6 +182,10 @@ sound-sliced s l v k some top = record {
   counts = k .counts;
   maxima = k .maxima;
   waited = k .waited;
+  attributes = k .attributes;
+  bits = k .bits;
+  unmet = k .unmet;
+  single = k .single;
 }
   where
     same : length (s .charges) ≡ length (s .slices)
@@ -137,7 +201,9 @@ sound-withCharge s l n k low = record {
   charges# = length-set (s .charges) l n ∙ k .charges#;
   counts# = k .counts#;
   maxima# = k .maxima#;
-  origin = (k .origin .0, k .origin .1, getD-set-other (s .charges) l 0 n 0 some ∙ k .origin .2, k .origin .3, k .origin .4);
+  attributes# = k .attributes#;
+  bits# = k .bits#;
+  origin = (k .origin .0, k .origin .1, getD-set-other (s .charges) l 0 n 0 some ∙ k .origin .2, k .origin .3, k .origin .4, k .origin .5, k .origin .6);
   tasks = k .tasks;
   levels = k .levels;
   waits = k .waits;
@@ -146,6 +212,10 @@ sound-withCharge s l n k low = record {
   counts = k .counts;
   maxima = k .maxima;
   waited = k .waited;
+  attributes = k .attributes;
+  bits = k .bits;
+  unmet = k .unmet;
+  single = k .single;
 }
   where
     some : 0 ≡ l → ⊥
@@ -159,6 +229,8 @@ sound-rotated s l k = record {
   charges# = k .charges#;
   counts# = k .counts#;
   maxima# = k .maxima#;
+  attributes# = k .attributes#;
+  bits# = k .bits#;
   origin = k .origin;
   tasks = k .tasks;
   levels = lists-turned (s .levels) 31 (λ t. levelOf (task s t)) l (k .levels);
@@ -168,6 +240,10 @@ sound-rotated s l k = record {
   counts = k .counts;
   maxima = k .maxima;
   waited = k .waited;
+  attributes = k .attributes;
+  bits = k .bits;
+  unmet = k .unmet;
+  single = k .single;
 }
 
 pub sound-withTime : (s : State) (n : ℕ) → Sound s → Sound (withTime n s)
@@ -177,6 +253,8 @@ sound-withTime s n k = record {
   charges# = k .charges#;
   counts# = k .counts#;
   maxima# = k .maxima#;
+  attributes# = k .attributes#;
+  bits# = k .bits#;
   origin = k .origin;
   tasks = k .tasks;
   levels = k .levels;
@@ -186,4 +264,8 @@ sound-withTime s n k = record {
   counts = k .counts;
   maxima = k .maxima;
   waited = k .waited;
+  attributes = k .attributes;
+  bits = k .bits;
+  unmet = k .unmet;
+  single = k .single;
 }

@@ -9,14 +9,15 @@ use lib.Dec.{T, eqb, eqb→eq}
 use lib.ListN.{length, getD, take, drop, replicate, length-replicate, getD-replicate, List·getD-eq-default}
 use borrow.Author.Tests.{eq-eqb}
 use Rattle.model.specs.Row.{row}
+use Rattle.model.specs.Flag.{areKept}
 use Rattle.model.specs.Task.{noTask, levelOf, rowOf}
 use Rattle.model.specs.State.{fresh, task}
 use Rattle.model.specs.Test.{zeros, listsOnly, padded}
 use Rattle.model.specs.Sound.{Lists, SoundTask, Sound}
 use Rattle.laws.proofs.Number.{below?}
 use Rattle.laws.proofs.Padded.{both, and-both, occ-zeros}
+use Rattle.laws.proofs.Record.{sound-none, row-none}
 use Rattle.kept.proofs.Listed.{listed-none}
-use Rattle.kept.proofs.Records.{sound-none}
 
 -- ---- a table of zeros
 zeros-drop : (n : ℕ) (q : List ℕ) → T (zeros q) → T (zeros (drop n q))
@@ -58,20 +59,29 @@ none : (n i : ℕ) → getD {A = ℕ} (replicate n 0) i 0 ≡ 0
 none n i = reads {A = ℕ} n 0 i
 
 pub sound-fresh : Sound fresh
-unfolding zeros levelOf rowOf
+unfolding zeros levelOf areKept
 sound-fresh = record {
   tasks# = refl;
   slices# = refl;
   charges# = refl;
   counts# = refl;
   maxima# = refl;
-  origin = (refl, refl, refl, refl, refl);
+  attributes# = refl;
+  bits# = refl;
+  origin = (refl, refl, refl, refl, refl, refl, refl);
   tasks = λ t. subst SoundTask (sym (reads 25 noTask t)) sound-none;
   levels = lists-nobody (fresh .levels) 31 (λ t. levelOf (task fresh t)) refl tt (λ t. ap levelOf (reads 25 noTask t));
-  waits = lists-nobody (fresh .waits) 13 (λ t. rowOf (task fresh t)) refl tt (λ t. ap rowOf (reads 25 noTask t));
+  waits = lists-nobody (fresh .waits) 21 (λ t. rowOf (task fresh t)) refl tt no-row;
   slices = λ l. omega (arith, none 31 l);
   charges = λ l. inr (none 31 l, none 31 l);
   counts = λ m. omega (arith, none 13 m);
   maxima = λ m. omega (arith, none 13 m);
-  waited = λ m t some e. absurd (omega (arith, ap rowOf (reads 25 noTask t)));
+  waited = λ m t some top e. absurd (omega (arith, no-row t));
+  attributes = λ f. subst (λ a. T (areKept a)) (sym (none 9 f)) tt;
+  bits = λ f e. none 9 f;
+  unmet = λ f t some top e. absurd (omega (arith, no-row t));
+  single = λ f t u some top one e. absurd (omega (arith, no-row t));
 }
+  where
+    no-row : (t : ℕ) → rowOf (task fresh t) ≡ 0
+    no-row t = ap rowOf (reads 25 noTask t) ∙ row-none

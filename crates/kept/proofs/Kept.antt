@@ -21,7 +21,8 @@ use Rattle.kept.specs.Statements
 use Rattle.kept.specs.Statements.{FreshIsSound, SoundStaysSound, CallStaysSound, reached, ReachedIsSound, RefusedIsUnchanged, RefusedCallIsUnchanged, Runs, RunsFirst, AnswerRunsFirst}
 use Rattle.kept.proofs.Effects.{sound-carried}
 use Rattle.kept.proofs.Running.{Best, nobody, stands, best, row-empty}
-use Rattle.kept.proofs.Shapes.{Shape, refuses, accepts, shape}
+use Rattle.kept.proofs.Shape.{Shape, refuses, accepts}
+use Rattle.kept.proofs.Shapes.{shape}
 use Rattle.kept.proofs.Fresh.{sound-fresh}
 
 -- ---- sound states
@@ -32,7 +33,7 @@ fresh-is-sound = sound-fresh
 shape-sound : {s : State} {p : Plan} → Sound s → Shape s p → Sound (carried s (p .effect))
 unfolding carried
 shape-sound k (refuses c n) = k
-shape-sound k (accepts c e n fit) = sound-carried k (fit k)
+shape-sound k (accepts c v e n fit) = sound-carried k (fit k)
 
 pub sound-stays-sound : SoundStaysSound
 unfolding step
@@ -40,7 +41,7 @@ sound-stays-sound s c a k = shape-sound k (shape s c a)
 
 -- the answer of a state that is not sound
 abbrev unsound : State → Answer
-unsound s = record { code = Unsound; running = 0; state = s }
+unsound s = record { code = Unsound; running = 0; value = 0; state = s }
 
 pub call-stays-sound : CallStaysSound
 unfolding call
@@ -59,7 +60,7 @@ reached-is-sound s (a ∷ rest) k = reached-is-sound (step s (a .0) (a .1) .stat
 shape-unchanged : {s : State} {p : Plan} → Shape s p → isRefusal (p .code) ≡ true → carried s (p .effect) ≡ s
 unfolding carried
 shape-unchanged (refuses c n) e = refl
-shape-unchanged (accepts c x n fit) e = absurd (T-not (isRefusal c) n (rw e tt))
+shape-unchanged (accepts c v x n fit) e = absurd (T-not (isRefusal c) n (rw e tt))
 
 pub refused-is-unchanged : RefusedIsUnchanged
 unfolding step

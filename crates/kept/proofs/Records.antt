@@ -8,11 +8,15 @@ use native.Mathlib.Omega.{arith}
 use lib.Dec.{T, eqb}
 use borrow.Author.Tests.{eqb-true, eqb-false}
 use Rattle.model.specs.declared.Task.{Task}
-use Rattle.model.specs.Task.{nothing, aSleep, aSemaphore, isDormant, isSuspended, isWaiting, isAsleep, isRunnable, isTimed, endless, levelOf, rowOf, ranOut, aged}
-use Rattle.model.specs.Task.{noTask, dormant, activated, created, withPriority, withSuspended, withWakeups, withActivations, withRemaining, waiting, ended}
+use Rattle.model.specs.declared.News.{News}
+use Rattle.model.specs.declared.News.the-variants.{Deleted, Bits}
+use Rattle.model.specs.Flag.{isMet}
+use Rattle.model.specs.Task.{nothing, aSleep, aSemaphore, aFlag, served, dlt, isDormant, isSuspended, isWaiting, isAsleep, isRunnable, isTimed, endless, levelOf, rowOf, ranOut, aged, told}
+use Rattle.model.specs.Task.{dormant, activated, created, withPriority, withSuspended, withWakeups, withActivations, withRemaining, waiting, ended}
 use Rattle.model.specs.Test.{isWaitCode}
 use Rattle.model.specs.Sound.{SoundTask}
 use Rattle.laws.proofs.Padded.{both}
+use Rattle.laws.proofs.Record.{row-waits}
 
 -- ---- tests
 pub some-of : (n : ℕ) → T (not (eqb n 0)) → 1 ≤ n
@@ -47,36 +51,10 @@ level-live x h = go (isRunnable x) h (both (not (isDormant x)) (not (isSuspended
     go true h r = (some-of (x .active) (r tt .0), none-of (x .wait) (both (not (isSuspended x)) (not (isWaiting x)) (r tt .1) .1))
     go false h r = absurd (omega arith)
 
-pub row-waits : (x : Task) → 1 ≤ rowOf x → x .wait ≡ aSemaphore
-unfolding rowOf
-row-waits x h = go (eqb (x .wait) aSemaphore) refl h
-  where
-    go : (b : Bool) → eqb (x .wait) aSemaphore ≡ b → 1 ≤ cond b (x .object) 0 → x .wait ≡ aSemaphore
-    go true e h = eqb-true (x .wait) aSemaphore e
-    go false e h = absurd (omega arith)
-
 pub row-live : (x : Task) → SoundTask x → 1 ≤ rowOf x → 1 ≤ x .active
-row-live x k h = let e = row-waits x h in waiting-live x k (λ z. omega arith)
+row-live x k h = waiting-live x k (λ z. omega (arith, row-waits x h))
 
 -- ---- records that wait for nothing
-pub sound-none : SoundTask noTask
-sound-none = record {
-  blank = λ e. refl;
-  base = omega arith;
-  priority = λ h. absurd (omega arith);
-  active = omega arith;
-  suspended = omega arith;
-  wakeups = omega arith;
-  activations = omega arith;
-  code = tt;
-  dormant = λ e. (refl, refl, refl, refl, refl, refl);
-  wait = inl refl;
-  waiting = λ waits. absurd (waits refl);
-  free = λ e. (refl, refl);
-  sleeper = λ e. absurd (omega arith);
-  object = λ e. absurd (omega arith);
-}
-
 pub sound-dormant : (p : ℕ) → 1 ≤ p → p ≤ 30 → SoundTask (dormant p)
 sound-dormant p low top = record {
   blank = λ e. absurd (omega arith);
@@ -87,12 +65,15 @@ sound-dormant p low top = record {
   wakeups = omega arith;
   activations = omega arith;
   code = tt;
-  dormant = λ e. (refl, refl, refl, refl, refl, refl);
+  dormant = λ e. (refl, refl, refl, refl, refl, refl, refl);
   wait = inl refl;
   waiting = λ waits. absurd (waits refl);
   free = λ e. (refl, refl);
   sleeper = λ e. absurd (omega arith);
   object = λ e. absurd (omega arith);
+  flag = λ e. absurd (omega arith);
+  asks = λ e. absurd (omega arith);
+  silent = λ n. (refl, refl);
 }
 
 pub sound-activated : (x : Task) → SoundTask x → 1 ≤ x .base → SoundTask (activated x)
@@ -111,6 +92,9 @@ sound-activated x k made = record {
   free = k .free;
   sleeper = k .sleeper;
   object = k .object;
+  flag = k .flag;
+  asks = k .asks;
+  silent = k .silent;
 }
 
 pub sound-created : (p o : ℕ) → 1 ≤ p → p ≤ 30 → SoundTask (created p o)
@@ -121,18 +105,29 @@ sound-created p o low top = go (eqb o 0)
     go false = sound-activated (dormant p) (sound-dormant p low top) low
 
 -- ---- records of a live task
--- the clauses of a wait: for w, with r ticks left, on object o, at n wakeups and code v
-record SoundWait (w r o n v : ℕ) : Type 0 where
-  wait : (w ≡ nothing) ⊎ ((w ≡ aSleep) ⊎ (w ≡ aSemaphore))
-  waiting : (w ≡ nothing → ⊥) → (1 ≤ r) × (v ≡ 0)
+-- the clauses of what a wait asks for: for w, on object o, pattern p in mode m
+record SoundAsk (w o p m : ℕ) : Type 0 where
+  flag : w ≡ aFlag → (1 ≤ o) × (o ≤ 8)
+  asks : w ≡ aFlag → (1 ≤ p) × (m ≤ 1)
+  silent : (w ≡ aFlag → ⊥) → (p ≡ 0) × (m ≡ 0)
+
+-- no other wait asks for anything
+unasked : (w o : ℕ) → (w ≡ aFlag → ⊥) → SoundAsk w o 0 0
+unasked w o other = record { flag = λ e. absurd (other e); asks = λ e. absurd (other e); silent = λ n. (refl, refl) }
+
+-- the clauses of a wait: for w, with r ticks left, on object o, asking for pattern p in mode m, at n wakeups, code v and bits b
+record SoundWait (w r o p m n v b : ℕ) : Type 0 where
+  wait : (w ≡ nothing) ⊎ ((w ≡ aSleep) ⊎ ((w ≡ aSemaphore) ⊎ (w ≡ aFlag)))
+  waiting : (w ≡ nothing → ⊥) → (1 ≤ r) × (v ≡ 0) × (b ≡ 0)
   free : w ≡ nothing → (r ≡ 0) × (o ≡ 0)
   sleeper : w ≡ aSleep → (n ≡ 0) × (o ≡ 0)
   object : w ≡ aSemaphore → (1 ≤ o) × (o ≤ 12)
+  ask : SoundAsk w o p m
 
 module _ (x : Task) (k : SoundTask x) (live : 1 ≤ x .active) where
   -- it stays what it was created as, and live
   still : (y : Task) → y .base ≡ x .base → y .active ≡ x .active → (1 ≤ y .priority) × (y .priority ≤ 30) → y .suspended ≤ 1 → y .wakeups ≤ 1 → y .activations ≤ 1
-      → T (isWaitCode (y .code)) → SoundWait (y .wait) (y .remaining) (y .object) (y .wakeups) (y .code) → SoundTask y
+      → T (isWaitCode (y .code)) → SoundWait (y .wait) (y .remaining) (y .object) (y .pattern) (y .mode) (y .wakeups) (y .code) (y .handed) → SoundTask y
   still y same lives priority suspended wakeups activations code w = record {
     blank = λ e. absurd (omega (arith, live-made x k live));
     base = rw same (k .base);
@@ -148,14 +143,20 @@ module _ (x : Task) (k : SoundTask x) (live : 1 ≤ x .active) where
     free = w .free;
     sleeper = w .sleeper;
     object = w .object;
+    flag = w .ask .flag;
+    asks = w .ask .asks;
+    silent = w .ask .silent;
   }
 
   priority-now : (1 ≤ x .priority) × (x .priority ≤ 30)
   priority-now = k .priority (live-made x k live)
 
   -- the wait stays as it was
-  wait-now : SoundWait (x .wait) (x .remaining) (x .object) (x .wakeups) (x .code)
-  wait-now = record { wait = k .wait; waiting = k .waiting; free = k .free; sleeper = k .sleeper; object = k .object }
+  ask-now : SoundAsk (x .wait) (x .object) (x .pattern) (x .mode)
+  ask-now = record { flag = k .flag; asks = k .asks; silent = k .silent }
+
+  wait-now : SoundWait (x .wait) (x .remaining) (x .object) (x .pattern) (x .mode) (x .wakeups) (x .code) (x .handed)
+  wait-now = record { wait = k .wait; waiting = k .waiting; free = k .free; sleeper = k .sleeper; object = k .object; ask = ask-now }
 
   pub sound-withPriority : (p : ℕ) → 1 ≤ p → p ≤ 30 → SoundTask (withPriority x p)
   sound-withPriority p low top = still (withPriority x p) refl refl (low, top) (k .suspended) (k .wakeups) (k .activations) (k .code) wait-now
@@ -170,27 +171,70 @@ module _ (x : Task) (k : SoundTask x) (live : 1 ≤ x .active) where
   pub sound-withWakeups : (n : ℕ) → n ≤ 1 → (x .wait ≡ aSleep → n ≡ 0) → SoundTask (withWakeups x n)
   sound-withWakeups n h awake =
       still (withWakeups x n) refl refl priority-now (k .suspended) h (k .activations) (k .code)
-      (record { wait = k .wait; waiting = k .waiting; free = k .free; sleeper = λ e. (awake e, k .sleeper e .1); object = k .object })
+      (record { wait = k .wait; waiting = k .waiting; free = k .free; sleeper = λ e. (awake e, k .sleeper e .1); object = k .object; ask = ask-now })
 
   pub sound-withRemaining : (d : ℕ) → 1 ≤ d → (x .wait ≡ nothing → ⊥) → SoundTask (withRemaining x d)
   sound-withRemaining d some waits =
       still (withRemaining x d) refl refl priority-now (k .suspended) (k .wakeups) (k .activations) (k .code)
-      (record { wait = k .wait; waiting = λ n. (some, k .waiting n .1); free = λ e. absurd (waits e); sleeper = k .sleeper; object = k .object })
+      (record { wait = k .wait; waiting = λ n. (some, k .waiting n .1, k .waiting n .2); free = λ e. absurd (waits e); sleeper = k .sleeper; object = k .object; ask = ask-now })
 
-  pub sound-ended : (v : ℕ) → T (isWaitCode v) → SoundTask (ended x v)
-  sound-ended v h =
-      still (ended x v) refl refl priority-now (k .suspended) (k .wakeups) (k .activations) h
-      (record { wait = inl refl; waiting = λ n. absurd (n refl); free = λ e. (refl, refl); sleeper = λ e. absurd (omega arith); object = λ e. absurd (omega arith) })
+  pub sound-ended : (v b : ℕ) → T (isWaitCode v) → SoundTask (ended x v b)
+  sound-ended v b h =
+      still (ended x v b) refl refl priority-now (k .suspended) (k .wakeups) (k .activations) h
+      (record { wait = inl refl; waiting = λ n. absurd (n refl); free = λ e. (refl, refl); sleeper = λ e. absurd (omega arith); object = λ e. absurd (omega arith); ask = unasked nothing 0 (λ e. omega arith) })
 
-  pub sound-asleep : (d : ℕ) → 1 ≤ d → x .wakeups ≡ 0 → SoundTask (waiting x aSleep 0 d)
+  -- a wait begins
+  begins : (w o d p m : ℕ) → SoundWait w d o p m (x .wakeups) 0 0 → SoundTask (waiting x w o d p m)
+  begins w o d p m sound = still (waiting x w o d p m) refl refl priority-now (k .suspended) (k .wakeups) (k .activations) tt sound
+
+  pub sound-asleep : (d : ℕ) → 1 ≤ d → x .wakeups ≡ 0 → SoundTask (waiting x aSleep 0 d 0 0)
   sound-asleep d some none =
-      still (waiting x aSleep 0 d) refl refl priority-now (k .suspended) (k .wakeups) (k .activations) tt
-      (record { wait = inr (inl refl); waiting = λ n. (some, refl); free = λ e. absurd (omega arith); sleeper = λ e. (none, refl); object = λ e. absurd (omega arith) })
+      begins aSleep 0 d 0 0
+      (record { wait = inr (inl refl); waiting = λ n. (some, refl, refl); free = λ e. absurd (omega arith); sleeper = λ e. (none, refl); object = λ e. absurd (omega arith); ask = unasked aSleep 0 (λ e. omega arith) })
 
-  pub sound-queued : (m d : ℕ) → 1 ≤ m → m ≤ 12 → 1 ≤ d → SoundTask (waiting x aSemaphore m d)
+  pub sound-queued : (m d : ℕ) → 1 ≤ m → m ≤ 12 → 1 ≤ d → SoundTask (waiting x aSemaphore m d 0 0)
   sound-queued m d low top some =
-      still (waiting x aSemaphore m d) refl refl priority-now (k .suspended) (k .wakeups) (k .activations) tt
-      (record { wait = inr (inr refl); waiting = λ n. (some, refl); free = λ e. absurd (omega arith); sleeper = λ e. absurd (omega arith); object = λ e. (low, top) })
+      begins aSemaphore m d 0 0
+      (record { wait = inr (inr (inl refl)); waiting = λ n. (some, refl, refl); free = λ e. absurd (omega arith); sleeper = λ e. absurd (omega arith); object = λ e. (low, top); ask = unasked aSemaphore m (λ e. omega arith) })
+
+  pub sound-asking : (f d p m : ℕ) → 1 ≤ f → f ≤ 8 → 1 ≤ d → 1 ≤ p → m ≤ 1 → SoundTask (waiting x aFlag f d p m)
+  sound-asking f d p m low top some bits mode =
+      let ask : SoundAsk aFlag f p m = record { flag = λ e. (low, top); asks = λ e. (bits, mode); silent = λ n. absurd (n refl) } in
+      begins aFlag f d p m
+      (record { wait = inr (inr (inr refl)); waiting = λ n. (some, refl, refl); free = λ e. absurd (omega arith); sleeper = λ e. absurd (omega arith); object = λ e. absurd (omega arith); ask = ask })
+
+  pub sound-told : (w : News) → SoundTask (told w x)
+  unfolding told
+  sound-told Deleted = sound-ended dlt 0 tt
+  sound-told (Bits b) = go (isMet (x .pattern) (x .mode) b)
+    where
+      go : (met : Bool) → SoundTask (cond met (ended x served b) x)
+      go true = sound-ended served b tt
+      go false = k
+
+-- ---- who was told and still waits
+-- a deletion lets nobody wait on, and bits those whom they do not meet
+abbrev pub Stays : News → Task → Type 0
+Stays Deleted x = ⊥
+Stays (Bits b) x = isMet (x .pattern) (x .mode) b ≡ false
+
+pub told-stays : (w : News) (x : Task) → (rowOf (told w x) ≡ 0) ⊎ (Stays w x × (told w x ≡ x))
+unfolding told rowOf
+told-stays Deleted x = inl refl
+told-stays (Bits b) x = go (isMet (x .pattern) (x .mode) b) refl
+  where
+    go : (met : Bool) → isMet (x .pattern) (x .mode) b ≡ met → (rowOf (cond met (ended x served b) x) ≡ 0) ⊎ ((isMet (x .pattern) (x .mode) b ≡ false) × (cond met (ended x served b) x ≡ x))
+    go true e = inl refl
+    go false e = inr (e, refl)
+
+pub told-live : (w : News) (x : Task) → told w x .active ≡ x .active
+unfolding told
+told-live Deleted x = refl
+told-live (Bits b) x = go (isMet (x .pattern) (x .mode) b)
+  where
+    go : (met : Bool) → cond met (ended x served b) x .active ≡ x .active
+    go true = refl
+    go false = refl
 
 -- ---- a tick's
 code-out : (x : Task) → T (isWaitCode (ranOut x))
@@ -209,21 +253,27 @@ sound-aged x k = go (isTimed x) (eqb (x .remaining) 1) (λ h. both (not (eqb (x 
     waits some e = omega (arith, k .free e)
 
     go : (a b : Bool) → (T a → T (not (eqb (x .remaining) 0))) → eqb (x .remaining) 1 ≡ b
-        → SoundTask (cond a (cond b (ended x (ranOut x)) (withRemaining x (x .remaining - 1))) x)
-    go true true timed e = sound-ended x k (waiting-live x k (waits (some-of (x .remaining) (timed tt)))) (ranOut x) (code-out x)
+        → SoundTask (cond a (cond b (ended x (ranOut x) 0) (withRemaining x (x .remaining - 1))) x)
+    go true true timed e = sound-ended x k (waiting-live x k (waits (some-of (x .remaining) (timed tt)))) (ranOut x) 0 (code-out x)
     go true false timed e =
         let some : 1 ≤ x .remaining = some-of (x .remaining) (timed tt) in
         let more : x .remaining ≡ 1 → ⊥ = eqb-false (x .remaining) 1 e in
         sound-withRemaining x k (waiting-live x k (waits some)) (x .remaining - 1) (omega arith) (waits some)
     go false b timed e = k
 
+-- x waits where y does, asking for the same
+abbrev pub WaitsAs : Task → Task → Type 0
+WaitsAs x y = (rowOf x ≡ rowOf y) × (x .pattern ≡ y .pattern) × (x .mode ≡ y .mode)
+
 -- no tick makes anyone wait
-pub aged-row : (x : Task) → (rowOf (aged x) ≡ 0) ⊎ (rowOf (aged x) ≡ rowOf x)
+pub aged-row : (x : Task) → (rowOf (aged x) ≡ 0) ⊎ WaitsAs (aged x) x
 unfolding aged rowOf
 aged-row x = go (isTimed x) (eqb (x .remaining) 1)
   where
-    go : (a b : Bool) → (rowOf (cond a (cond b (ended x (ranOut x)) (withRemaining x (x .remaining - 1))) x) ≡ 0)
-        ⊎ (rowOf (cond a (cond b (ended x (ranOut x)) (withRemaining x (x .remaining - 1))) x) ≡ rowOf x)
+    z : Bool → Bool → Task
+    z a b = cond a (cond b (ended x (ranOut x) 0) (withRemaining x (x .remaining - 1))) x
+
+    go : (a b : Bool) → (rowOf (z a b) ≡ 0) ⊎ WaitsAs (z a b) x
     go true true = inl refl
-    go true false = inr refl
-    go false b = inr refl
+    go true false = inr (refl, refl, refl)
+    go false b = inr (refl, refl, refl)

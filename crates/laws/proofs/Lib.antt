@@ -5,3 +5,5 @@ pub mod Relisted
 pub mod Occ
 pub mod Padded
 pub mod Room
+pub mod Bits
+pub mod Record

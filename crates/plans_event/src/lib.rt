@@ -1,9 +1,10 @@
-// The plans of the services on event flags, and the dispatch over them.
+// The plans of the services on event flags, and the dispatch over them; the poll has a file of its own, where an edit can name its lines.
 // Each function is a definition of model/specs/Service or Call, for every value; it rests on checks and records.
 ghost use mathlib.Core.Path.{_≡_};
 ghost use Rattle.model.specs.Flag.{isSingle, withBits, withoutBits, bitsLeft};
-ghost use Rattle.model.specs.Service.{eventCreate, eventDelete, meetsFirst, eventSet, eventClear, isOccupied, taken, eventWait, eventPoll};
+ghost use Rattle.model.specs.Service.{eventCreate, eventDelete, meetsFirst, eventSet, eventClear, isOccupied, taken, eventWait};
 ghost use Rattle.model.specs.Call.{eventSubject, eventPlan};
+use crate::poll::event_poll;
 use checks::does;
 use checks::flags;
 use checks::gives;
@@ -24,6 +25,8 @@ use model::Plan;
 use model::Task;
 use records::is_met;
 use records::waiting;
+
+pub mod poll;
 
 // ---- a flag's bits
 // CLR zeroes the bits when a wait or poll is met.
@@ -225,38 +228,6 @@ pub fn event_wait(
     }
     let m = mode as u8;
     pending(run, waiting(k, 3, f, timeout, pattern, m))
-}
-
-pub fn event_poll(mine: bool, flag: u32, pattern: u32, mode: u32, y: Flag) -> Plan
-    ensures { λ r. ⌜ r ≡ eventPoll mine flag pattern mode y ⌝ }
-{
-    let made = y.attributes;
-    let numbered = is_flag(flag);
-    if !numbered {
-        return refused(Code::WrongParam);
-    }
-    if pattern == 0 {
-        return refused(Code::WrongParam);
-    }
-    if 1 < mode {
-        return refused(Code::WrongParam);
-    }
-    if made == 0 {
-        return refused(Code::NoExs);
-    }
-    if !mine {
-        return refused(Code::WContext);
-    }
-    let occupied = is_occupied(y);
-    if occupied {
-        return refused(Code::IlUse);
-    }
-    let met = is_met(pattern, mode, y.bits);
-    if !met {
-        return refused(Code::Timeout);
-    }
-    let f = flag as u8;
-    taken(f, y)
 }
 
 // ---- the dispatch

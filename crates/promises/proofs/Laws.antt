@@ -51,5 +51,5 @@ answer {u = u} p q i = (fixed (λ x. x) (p .0) (q .0) i, (tt, (fixed (λ x. x) (
 abbrev pub queues : {U : Type 0} → State → U → List ℕ × (List ℕ × U)
 queues s u = (s .levels, (s .waits, u))
 
-abbrev pub tables : {U : Type 0} → State → U → List ℕ × (List ℕ × (List ℕ × (List ℕ × (List ℕ × (List ℕ × (ℕ × U))))))
-tables s u = queues s (s .slices, (s .charges, (s .counts, (s .maxima, (s .time, u)))))
+abbrev pub tables : {U : Type 0} → State → U → List ℕ × (List ℕ × (List ℕ × (List ℕ × (List ℕ × (List ℕ × (List ℕ × (List ℕ × (ℕ × U))))))))
+tables s u = queues s (s .slices, (s .charges, (s .counts, (s .maxima, (s .attributes, (s .bits, (s .time, u)))))))

@@ -6,6 +6,7 @@ use Rattle.rows.proofs as rows
 use Rattle.checks.proofs as checks
 use Rattle.plans_task.proofs as plans_task
 use Rattle.plans_semaphore.proofs as plans_semaphore
+use Rattle.plans_event.proofs as plans_event
 use Rattle.plans.proofs as plans
 use Rattle.crossing.proofs as crossing
 use Rattle.sound.proofs as sound
@@ -24,6 +25,7 @@ pub of-records : List Promise
 of-records =
     of records.level_of.signature (λ M. records.level_of.clauses) (λ M. records.level_of.Met.met) (λ w κs a g h o p. plain w result) ∷
     of records.row_of.signature (λ M. records.row_of.clauses) (λ M. records.row_of.Met.met) (λ w κs a g h o p. plain w result) ∷
+    of records.flag_row.signature (λ M. records.flag_row.clauses) (λ M. records.flag_row.Met.met) (λ w κs a g h o p. plain w result) ∷
     of records.no_task.signature (λ M. records.no_task.clauses) (λ M. records.no_task.Met.met) (λ w κs a g h o p. plain w result) ∷
     of records.dormant.signature (λ M. records.dormant.clauses) (λ M. records.dormant.Met.met) (λ w κs a g h o p. plain w result) ∷
     of records.activated.signature (λ M. records.activated.clauses) (λ M. records.activated.Met.met) (λ w κs a g h o p. plain w result) ∷
@@ -34,6 +36,8 @@ of-records =
     of records.with_activations.signature (λ M. records.with_activations.clauses) (λ M. records.with_activations.Met.met) (λ w κs a g h o p. plain w result) ∷
     of records.waiting.signature (λ M. records.waiting.clauses) (λ M. records.waiting.Met.met) (λ w κs a g h o p. plain w result) ∷
     of records.ended.signature (λ M. records.ended.clauses) (λ M. records.ended.Met.met) (λ w κs a g h o p. plain w result) ∷
+    of records.is_met.signature (λ M. records.is_met.clauses) (λ M. records.is_met.Met.met) (λ w κs a g h o p. plain w result) ∷
+    of records.told.signature (λ M. records.told.clauses) (λ M. records.told.Met.met) (λ w κs a g h o p. plain w result) ∷
     []
 
 pub of-rows : List Promise
@@ -52,6 +56,8 @@ of-rows =
 
 pub of-checks : List Promise
 of-checks =
+    of checks.in_t.signature (λ M. checks.in_t.clauses) (λ M. checks.in_t.Met.met) (λ w κs a g h o p. plain w result) ∷
+    of checks.in_i.signature (λ M. checks.in_i.clauses) (λ M. checks.in_i.Met.met) (λ w κs a g h o p. plain w result) ∷
     of checks.within.signature (λ M. checks.within.clauses) (λ M. checks.within.Met.met) (λ w κs a g h o p. plain w result) ∷
     of checks.is_task.signature (λ M. checks.is_task.clauses) (λ M. checks.is_task.Met.met) (λ w κs a g h o p. plain w result) ∷
     of checks.is_priority.signature (λ M. checks.is_priority.clauses) (λ M. checks.is_priority.Met.met) (λ w κs a g h o p. plain w result) ∷
@@ -59,11 +65,15 @@ of-checks =
     of checks.is_maximum.signature (λ M. checks.is_maximum.clauses) (λ M. checks.is_maximum.Met.met) (λ w κs a g h o p. plain w result) ∷
     of checks.is_timeout.signature (λ M. checks.is_timeout.clauses) (λ M. checks.is_timeout.Met.met) (λ w κs a g h o p. plain w result) ∷
     of checks.is_slice.signature (λ M. checks.is_slice.clauses) (λ M. checks.is_slice.Met.met) (λ w κs a g h o p. plain w result) ∷
+    of checks.is_flag.signature (λ M. checks.is_flag.clauses) (λ M. checks.is_flag.Met.met) (λ w κs a g h o p. plain w result) ∷
+    of checks.is_attributes.signature (λ M. checks.is_attributes.clauses) (λ M. checks.is_attributes.Met.met) (λ w κs a g h o p. plain w result) ∷
     of checks.refused.signature (λ M. checks.refused.clauses) (λ M. checks.refused.Met.met) (λ w κs a g h o p. plain w result) ∷
     of checks.does.signature (λ M. checks.does.clauses) (λ M. checks.does.Met.met) (λ w κs a g h o p. plain w result) ∷
     of checks.answers.signature (λ M. checks.answers.clauses) (λ M. checks.answers.Met.met) (λ w κs a g h o p. plain w result) ∷
+    of checks.gives.signature (λ M. checks.gives.clauses) (λ M. checks.gives.Met.met) (λ w κs a g h o p. plain w result) ∷
     of checks.moves.signature (λ M. checks.moves.clauses) (λ M. checks.moves.Met.met) (λ w κs a g h o p. plain w result) ∷
     of checks.counts.signature (λ M. checks.counts.clauses) (λ M. checks.counts.Met.met) (λ w κs a g h o p. plain w result) ∷
+    of checks.flags.signature (λ M. checks.flags.clauses) (λ M. checks.flags.Met.met) (λ w κs a g h o p. plain w result) ∷
     of checks.pending.signature (λ M. checks.pending.clauses) (λ M. checks.pending.Met.met) (λ w κs a g h o p. plain w result) ∷
     []
 
@@ -94,10 +104,20 @@ of-plans_semaphore =
     of plans_semaphore.delete.sem_delete.signature (λ M. plans_semaphore.delete.sem_delete.clauses) (λ M. plans_semaphore.delete.sem_delete.Met.met) (λ w κs a g h o p. plain w result) ∷
     []
 
+pub of-plans_event : List Promise
+of-plans_event =
+    of plans_event.event_create.signature (λ M. plans_event.event_create.clauses) (λ M. plans_event.event_create.Met.met) (λ w κs a g h o p. plain w result) ∷
+    of plans_event.event_delete.signature (λ M. plans_event.event_delete.clauses) (λ M. plans_event.event_delete.Met.met) (λ w κs a g h o p. plain w result) ∷
+    of plans_event.event_set.signature (λ M. plans_event.event_set.clauses) (λ M. plans_event.event_set.Met.met) (λ w κs a g h o p. plain w result) ∷
+    of plans_event.event_clear.signature (λ M. plans_event.event_clear.clauses) (λ M. plans_event.event_clear.Met.met) (λ w κs a g h o p. plain w result) ∷
+    of plans_event.event_wait.signature (λ M. plans_event.event_wait.clauses) (λ M. plans_event.event_wait.Met.met) (λ w κs a g h o p. plain w result) ∷
+    of plans_event.poll.event_poll.signature (λ M. plans_event.poll.event_poll.clauses) (λ M. plans_event.poll.event_poll.Met.met) (λ w κs a g h o p. plain w result) ∷
+    of plans_event.event_subject.signature (λ M. plans_event.event_subject.clauses) (λ M. plans_event.event_subject.Met.met) (λ w κs a g h o p. plain w result) ∷
+    of plans_event.event_plan.signature (λ M. plans_event.event_plan.clauses) (λ M. plans_event.event_plan.Met.met) (λ w κs a g h o p. plain w result) ∷
+    []
+
 pub of-plans : List Promise
 of-plans =
-    of plans.in_t.signature (λ M. plans.in_t.clauses) (λ M. plans.in_t.Met.met) (λ w κs a g h o p. plain w result) ∷
-    of plans.in_i.signature (λ M. plans.in_i.clauses) (λ M. plans.in_i.Met.met) (λ w κs a g h o p. plain w result) ∷
     of plans.named.signature (λ M. plans.named.clauses) (λ M. plans.named.Met.met) (λ w κs a g h o p. plain w result) ∷
     of plans.subject.signature (λ M. plans.subject.clauses) (λ M. plans.subject.Met.met) (λ w κs a g h o p. plain w result) ∷
     of plans.plan.signature (λ M. plans.plan.clauses) (λ M. plans.plan.Met.met) (λ w κs a g h o p. plain w result) ∷
@@ -115,19 +135,27 @@ of-sound =
     of sound.record.rate_sound.signature (λ M. sound.record.rate_sound.clauses) (λ M. sound.record.rate_sound.Met.met) (λ w κs a g h o p. plain w result) ∷
     of sound.record.count_sound.signature (λ M. sound.record.count_sound.clauses) (λ M. sound.record.count_sound.Met.met) (λ w κs a g h o p. plain w result) ∷
     of sound.record.is_origin.signature (λ M. sound.record.is_origin.clauses) (λ M. sound.record.is_origin.Met.met) (λ w κs a g h o p. plain w result) ∷
+    of sound.flag.flag_sound.signature (λ M. sound.flag.flag_sound.clauses) (λ M. sound.flag.flag_sound.Met.met) (λ w κs a g h o p. plain w result) ∷
+    of sound.flag.bits_of.signature (λ M. sound.flag.bits_of.clauses) (λ M. sound.flag.bits_of.Met.met) (λ w κs a g h o p. plain w result) ∷
+    of sound.flag.is_unmet.signature (λ M. sound.flag.is_unmet.clauses) (λ M. sound.flag.is_unmet.Met.met) (λ w κs a g h o p. plain w result) ∷
     []
 
 pub of-effects : List Promise
 of-effects =
     of effects.number_at.signature (λ M. effects.number_at.clauses) (λ M. effects.number_at.Met.met) (λ w κs a g h o p. plain w result) ∷
     of effects.put_number.signature (λ M. effects.put_number.clauses) (λ M. effects.put_number.Met.met) (λ w κs a g h o p. plain w buffer) ∷
+    of effects.byte_at.signature (λ M. effects.byte_at.clauses) (λ M. effects.byte_at.Met.met) (λ w κs a g h o p. plain w result) ∷
+    of effects.put_byte.signature (λ M. effects.put_byte.clauses) (λ M. effects.put_byte.Met.met) (λ w κs a g h o p. plain w buffer) ∷
+    of effects.bits_at.signature (λ M. effects.bits_at.clauses) (λ M. effects.bits_at.Met.met) (λ w κs a g h o p. plain w result) ∷
+    of effects.put_bits.signature (λ M. effects.put_bits.clauses) (λ M. effects.put_bits.Met.met) (λ w κs a g h o p. plain w buffer) ∷
     of effects.task_at.signature (λ M. effects.task_at.clauses) (λ M. effects.task_at.Met.met) (λ w κs a g h o p. plain w result) ∷
     of effects.semaphore_at.signature (λ M. effects.semaphore_at.clauses) (λ M. effects.semaphore_at.Met.met) (λ w κs a g h o p. plain w result) ∷
+    of effects.flag_at.signature (λ M. effects.flag_at.clauses) (λ M. effects.flag_at.Met.met) (λ w κs a g h o p. plain w result) ∷
     of effects.requeue.signature (λ M. effects.requeue.clauses) (λ M. effects.requeue.Met.met) (λ w κs a g h o p. plain w buffers) ∷
     of effects.charge.signature (λ M. effects.charge.clauses) (λ M. effects.charge.Met.met) (λ w κs a g h o p. plain w (fixed λ s. (tt, (s .levels, (tt, (s .charges, _)))))) ∷
     of effects.ran_out.signature (λ M. effects.ran_out.clauses) (λ M. effects.ran_out.Met.met) (λ w κs a g h o p. plain w result) ∷
     of effects.lapse.signature (λ M. effects.lapse.clauses) (λ M. effects.lapse.Met.met) (λ w κs a g h o p. plain w (fixed λ s. (s .tasks, (tt, queues s _)))) ∷
-    of effects.end_all.signature (λ M. effects.end_all.clauses) (λ M. effects.end_all.Met.met) (λ w κs a g h o p. plain w (fixed λ s. (s .tasks, (tt, queues s _)))) ∷
+    of effects.tell_all.signature (λ M. effects.tell_all.clauses) (λ M. effects.tell_all.Met.met) (λ w κs a g h o p. plain w (fixed λ s. (s .tasks, (tt, queues s _)))) ∷
     []
 
 pub of-carry : List Promise
@@ -142,7 +170,7 @@ of-carry =
 pub of-kernel : List Promise
 of-kernel =
     of kernel.fresh.signature (λ M. kernel.fresh.clauses) (λ M. kernel.fresh.Met.met) (λ w κs a g h o p. plain w result) ∷
-    of kernel.step_in.signature (λ M. kernel.step_in.clauses) (λ M. kernel.step_in.Met.met) (λ w κs a g h o p. plain w (fixed λ n. (record { code = n .code; running = n .running; tasks = n .state .tasks }, (tt, tables (n .state) _)))) ∷
+    of kernel.step_in.signature (λ M. kernel.step_in.clauses) (λ M. kernel.step_in.Met.met) (λ w κs a g h o p. plain w (fixed λ n. (record { code = n .code; running = n .running; value = n .value; tasks = n .state .tasks }, (tt, tables (n .state) _)))) ∷
     of kernel.step.signature (λ M. kernel.step.clauses) (λ M. kernel.step.Met.met) (λ w κs a g h o p. plain w result) ∷
     of kernel.call.signature (λ M. kernel.call.clauses) (λ M. kernel.call.Met.met) (λ w κs a g h o p. plain w result) ∷
     []

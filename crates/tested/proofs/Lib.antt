@@ -1,4 +1,5 @@
 pub mod Says
+pub mod Numbers
 pub mod Records
 pub mod Listed
 pub mod Same

@@ -10,13 +10,13 @@ use lib.Dec.{T}
 use lib.ListN.{length, take, drop}
 use lib.Seq.{drop-drop}
 use borrow.Author.Tests.{eq-eqb, ne-eqb}
-use Rattle.model.specs.Row.{row, firstOf}
+use Rattle.model.specs.Row.{row, firstOf, secondOf}
 use Rattle.model.specs.Test.{one, everyRow, occ, listsOnly, padded, isListed, isFiled, listsExactly}
 use Rattle.model.specs.Sound.{Lists}
 use Rattle.laws.proofs.Number.{same?, below?}
-use Rattle.laws.proofs.Occ.{one-eq, one-ne, first-in}
-use Rattle.laws.proofs.Padded.{occ-zeros, first-none}
-use Rattle.laws.proofs.Table.{first-row}
+use Rattle.laws.proofs.Occ.{one-le, one-eq, one-ne, first-in}
+use Rattle.laws.proofs.Padded.{occ-zeros, first-none, second-none, second-some}
+use Rattle.laws.proofs.Table.{at-row, first-row}
 use Rattle.tested.proofs.Says.{Says, says-as, says-eq, says-not, says-and, says-or, says-below}
 
 -- ---- one row
@@ -150,7 +150,7 @@ module _ (ls : List ℕ) (n : ℕ) (key : ℕ → ℕ) where
   pub test-of-lists : ((t : ℕ) → key t < n) → key 0 ≡ 0 → Lists ls n key → T (listsExactly ls n key)
   test-of-lists most origin h = says-parts .tests (lists-parts most origin h)
 
-  -- ---- the first of a row
+  -- ---- the first and the second of a row
   module _ (h : Lists ls n key) (l : ℕ) (k : l < n) where
     -- who stands first has the row's key
     pub first-listed : (firstOf ls l ≡ 0 → ⊥) → Listed l (key (firstOf ls l))
@@ -164,3 +164,16 @@ module _ (ls : List ℕ) (n : ℕ) (key : ℕ → ℕ) where
     listed-first t some r e =
         let none = first-none (row ls l) (h .ends l k) (sym (first-row ls l) ∙ e) t some in
         omega (arith, h .exactly l t k some, one-holds (says-listed l (key t)) r)
+
+    -- all who have it are one, where nobody stands second
+    pub second-alone : secondOf ls l ≡ 0 → (t u : ℕ) → 1 ≤ t → 1 ≤ u → Listed l (key t) → Listed l (key u) → t ≡ u
+    second-alone e t u low some a b = second-none (row ls l) (h .ends l k) (sym (at-row ls l 1 (omega arith)) ∙ e) t u low some (there t low a) (there u some b)
+      where
+        there : (v : ℕ) → 1 ≤ v → Listed l (key v) → 1 ≤ occ v (row ls l)
+        there v low r = omega (arith, h .exactly l v k low, one-holds (says-listed l (key v)) r)
+
+    -- and nobody stands second, where all who have it are one
+    pub alone-second : ((t u : ℕ) → Listed l (key t) → Listed l (key u) → t ≡ u) → secondOf ls l ≡ 0
+    alone-second all = at-row ls l 1 (omega arith) ∙ second-some (row ls l) (h .ends l k)
+        (λ u some. omega (arith, h .exactly l u k some, one-le (isListed l (key u))))
+        (λ t u low some a b. all t u (stands h l t k low a) (stands h l u k some b))

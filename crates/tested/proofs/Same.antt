@@ -1,49 +1,40 @@
 -- The test of soundness and the statement of soundness say the same of every state.
--- Rests on Records for the tasks and on Listed for the two tables of queues.
+-- Rests on Records for the tasks, on Numbers for the other tables and on Listed for the two tables of queues.
 use mathlib.Core.Path.{_≡_, refl, ap, _∙_}
 use mathlib.Core.Bool.{Bool, true, false}
-use mathlib.Core.Logic.{_⊎_, inr, _↔_}
-use Prim.Native.Nat.{ℕ, zero, suc, _≤_, _<_}
+use mathlib.Core.Logic.{inr, ⊎-elim, _↔_}
+use Prim.Native.Nat.{ℕ, _+_, _≤_, _<_}
 use native.Mathlib.Omega.{arith}
 use lib.Dec.{T}
 use lib.ListN.{length, List·getD-eq-default}
 use Rattle.model.specs.declared.State.{State}
-use Rattle.model.specs.Row.{firstOf}
+use Rattle.model.specs.Row.{firstOf, secondOf}
+use Rattle.model.specs.Flag.{areKept, isSingle, isMet, flagRow}
 use Rattle.model.specs.Task.{noTask, levelOf, rowOf}
-use Rattle.model.specs.State.{task, slice, charge, count, maximum}
-use Rattle.model.specs.Test.{listsExactly, isTaskSound, isRateSound, isCountSound, isSized, isOrigin, isSound}
+use Rattle.model.specs.State.{task, slice, charge, count, maximum, attribute, bitsOf}
+use Rattle.model.specs.Test.{listsExactly, isTaskSound, isRateSound, isCountSound, isFlagSound, isUnmet, isSized, isOrigin, isSound}
 use Rattle.model.specs.Sound.{Lists, SoundTask, Sound}
-use Rattle.tested.proofs.Says.{Says, says-as, says-same, says-eq, says-le, says-lt, says-not, says-and, says-or, says-implies, says-below, everywhere}
-use Rattle.tested.proofs.Records.{says-blank, says-task, sound-none, level-none, row-none, level-most, row-most}
-use Rattle.tested.proofs.Listed.{lists-of-test, test-of-lists, first-listed, listed-first}
-
--- ---- a level's slice and charge, a semaphore's numbers with who waits first
-abbrev Rate : ℕ → ℕ → Type 0
-Rate v n = (v ≤ 1000) × ((n < v) ⊎ ((v ≡ 0) × (n ≡ 0)))
-
-abbrev Counted : ℕ → ℕ → ℕ → Type 0
-Counted n v firstWaiter = (n ≤ v) × ((v ≤ 65535) × ((firstWaiter ≡ 0 → ⊥) → (n ≡ 0) × (v ≡ 0 → ⊥)))
-
-says-rate : (v n : ℕ) → Says (isRateSound v n) (Rate v n)
-unfolding isRateSound
-says-rate v n = says-and says-le (says-or says-lt (says-and says-eq says-eq))
-
-says-count : (n v firstWaiter : ℕ) → Says (isCountSound n v firstWaiter) (Counted n v firstWaiter)
-unfolding isCountSound
-says-count n v firstWaiter = says-and says-le (says-and says-le (says-implies (says-not says-eq) (says-and says-eq (says-not says-eq))))
+use Rattle.laws.proofs.Number.{same?}
+use Rattle.laws.proofs.Record.{sound-none, row-none, row-most, flag-row, flag-none, row-flag, flag-waits}
+use Rattle.tested.proofs.Says.{Says, says-as, says-same, says-eq, says-and, says-below, everywhere}
+use Rattle.tested.proofs.Numbers.{Rate, Counted, Flagged, Unmet, says-rate, says-count, says-flag, says-unmet}
+use Rattle.tested.proofs.Records.{says-blank, says-task, level-none, level-most}
+use Rattle.tested.proofs.Listed.{Listed, lists-of-test, test-of-lists, first-listed, listed-first, second-alone, alone-second}
 
 -- ---- what the test of a state says, in its own order
 record Sized (s : State) : Type 0 where
   tasks# : length (s .tasks) ≡ 25
   levels# : length (s .levels) ≡ 744
-  waits# : length (s .waits) ≡ 312
+  waits# : length (s .waits) ≡ 504
   slices# : length (s .slices) ≡ 31
   charges# : length (s .charges) ≡ 31
   counts# : length (s .counts) ≡ 13
   maxima# : length (s .maxima) ≡ 13
+  attributes# : length (s .attributes) ≡ 9
+  bits# : length (s .bits) ≡ 9
 
 abbrev Origin : State → Type 0
-Origin s = (task s 0 ≡ noTask) × (slice s 0 ≡ 0) × (charge s 0 ≡ 0) × (count s 0 ≡ 0) × (maximum s 0 ≡ 0)
+Origin s = (task s 0 ≡ noTask) × (slice s 0 ≡ 0) × (charge s 0 ≡ 0) × (count s 0 ≡ 0) × (maximum s 0 ≡ 0) × (attribute s 0 ≡ 0) × (bitsOf s 0 ≡ 0)
 
 record Parts (s : State) : Type 0 where
   sized : Sized s
@@ -51,8 +42,10 @@ record Parts (s : State) : Type 0 where
   tasks : (t : ℕ) → t < 25 → SoundTask (task s t)
   rates : (l : ℕ) → l < 31 → Rate (slice s l) (charge s l)
   counts : (m : ℕ) → m < 13 → Counted (count s m) (maximum s m) (firstOf (s .waits) m)
+  flags : (f : ℕ) → f < 9 → Flagged (attribute s f) (bitsOf s f) (firstOf (s .waits) (flagRow f)) (secondOf (s .waits) (flagRow f))
+  unmet : (t : ℕ) → t < 25 → Unmet (task s t) (bitsOf s (task s t .object))
   levels : T (listsExactly (s .levels) 31 (λ t. levelOf (task s t)))
-  waits : T (listsExactly (s .waits) 13 (λ t. rowOf (task s t)))
+  waits : T (listsExactly (s .waits) 21 (λ t. rowOf (task s t)))
 
 module _ (s : State) where
   says-sized : Says (isSized s) (Sized s)
@@ -64,16 +57,18 @@ module _ (s : State) where
         slices# = q .0;
         charges# = q .1 .0;
         counts# = q .1 .1 .0;
-        maxima# = q .1 .1 .1;
+        maxima# = q .1 .1 .1 .0;
+        attributes# = q .1 .1 .1 .1 .0;
+        bits# = q .1 .1 .1 .1 .1;
       })
-      (λ z. (z .tasks#, (z .levels#, (z .waits#, (z .slices#, (z .charges#, (z .counts#, z .maxima#)))))))
-      (says-and says-eq (says-and says-eq (says-and says-eq (says-and says-eq (says-and says-eq (says-and says-eq says-eq))))))
+      (λ z. (z .tasks#, (z .levels#, (z .waits#, (z .slices#, (z .charges#, (z .counts#, (z .maxima#, (z .attributes#, z .bits#)))))))))
+      (says-and says-eq (says-and says-eq (says-and says-eq (says-and says-eq (says-and says-eq (says-and says-eq (says-and says-eq (says-and says-eq says-eq))))))))
 
   says-origin : Says (isOrigin s) (Origin s)
   says-origin = says-as
-      (λ p. (p .0, p .1 .0, p .1 .1 .0, p .1 .1 .1 .0, p .1 .1 .1 .1))
-      (λ p. (p .0, (p .1, (p .2, (p .3, p .4)))))
-      (says-and (says-blank (task s 0)) (says-and says-eq (says-and says-eq (says-and says-eq says-eq))))
+      (λ p. let q = p .1 .1 .1 .1 in (p .0, p .1 .0, p .1 .1 .0, p .1 .1 .1 .0, q .0, q .1 .0, q .1 .1))
+      (λ p. (p .0, (p .1, (p .2, (p .3, (p .4, (p .5, p .6)))))))
+      (says-and (says-blank (task s 0)) (says-and says-eq (says-and says-eq (says-and says-eq (says-and says-eq (says-and says-eq says-eq))))))
 
   says-parts : Says (isSound s) (Parts s)
   unfolding isSound
@@ -84,17 +79,25 @@ module _ (s : State) where
         tasks = p .1 .1 .0;
         rates = q .0;
         counts = q .1 .0;
-        levels = q .1 .1 .0;
-        waits = q .1 .1 .1;
+        flags = q .1 .1 .0;
+        unmet = q .1 .1 .1 .0;
+        levels = q .1 .1 .1 .1 .0;
+        waits = q .1 .1 .1 .1 .1;
       })
-      (λ h. (h .sized, (h .origin, (h .tasks, (h .rates, (h .counts, (h .levels, h .waits)))))))
+      (λ h. (h .sized, (h .origin, (h .tasks, (h .rates, (h .counts, (h .flags, (h .unmet, (h .levels, h .waits)))))))))
       (says-and says-sized (says-and says-origin
       (says-and (says-below 25 (λ t. isTaskSound (task s t)) (λ t. SoundTask (task s t)) (λ t. says-task (task s t)))
       (says-and (says-below 31 (λ l. isRateSound (slice s l) (charge s l)) (λ l. Rate (slice s l) (charge s l)) (λ l. says-rate (slice s l) (charge s l)))
       (says-and
       (says-below 13 (λ m. isCountSound (count s m) (maximum s m) (firstOf (s .waits) m)) (λ m. Counted (count s m) (maximum s m) (firstOf (s .waits) m))
       (λ m. says-count (count s m) (maximum s m) (firstOf (s .waits) m)))
-      (says-and (says-same (listsExactly (s .levels) 31 (λ t. levelOf (task s t)))) (says-same (listsExactly (s .waits) 13 (λ t. rowOf (task s t))))))))))
+      (says-and
+      (says-below 9 (λ f. isFlagSound (attribute s f) (bitsOf s f) (firstOf (s .waits) (flagRow f)) (secondOf (s .waits) (flagRow f)))
+      (λ f. Flagged (attribute s f) (bitsOf s f) (firstOf (s .waits) (flagRow f)) (secondOf (s .waits) (flagRow f)))
+      (λ f. says-flag (attribute s f) (bitsOf s f) (firstOf (s .waits) (flagRow f)) (secondOf (s .waits) (flagRow f))))
+      (says-and
+      (says-below 25 (λ t. isUnmet (task s t) (bitsOf s (task s t .object))) (λ t. Unmet (task s t) (bitsOf s (task s t .object))) (λ t. says-unmet (task s t) (bitsOf s (task s t .object))))
+      (says-and (says-same (listsExactly (s .levels) 31 (λ t. levelOf (task s t)))) (says-same (listsExactly (s .waits) 21 (λ t. rowOf (task s t))))))))))))
 
   -- ---- the statement from the parts
   module _ (p : Parts s) where
@@ -125,16 +128,46 @@ module _ (s : State) where
     sound-levels : Lists (s .levels) 31 (λ t. levelOf (task s t))
     sound-levels = lists-of-test (s .levels) 31 (λ t. levelOf (task s t)) (p .sized .levels#) (λ t h. ap levelOf (no-task t h) ∙ level-none) (p .levels)
 
-    sound-waits : Lists (s .waits) 13 (λ t. rowOf (task s t))
-    sound-waits = lists-of-test (s .waits) 13 (λ t. rowOf (task s t)) (p .sized .waits#) (λ t h. ap rowOf (no-task t h) ∙ row-none) (p .waits)
+    sound-waits : Lists (s .waits) 21 (λ t. rowOf (task s t))
+    sound-waits = lists-of-test (s .waits) 21 (λ t. rowOf (task s t)) (p .sized .waits#) (λ t h. ap rowOf (no-task t h) ∙ row-none) (p .waits)
 
-    waited : (m t : ℕ) → 1 ≤ m → rowOf (task s t) ≡ m → (count s m ≡ 0) × (1 ≤ maximum s m)
-    waited m zero h e = absurd (omega (arith, ap rowOf (p .origin .0), row-none))
-    waited m (suc t) h e =
-        let in-table : m < 13 = omega (arith, row-most (task s (suc t)) (each-task (suc t))) in
-        let some = listed-first (s .waits) 13 (λ t. rowOf (task s t)) sound-waits m in-table (suc t) (omega arith) (λ k. omega arith, e) in
-        let c = p .counts m in-table .1 .1 some in
+    each-flag : (f : ℕ) → T (areKept (attribute s f)) × (attribute s f ≡ 0 → bitsOf s f ≡ 0)
+    unfolding areKept
+    each-flag = everywhere (λ f. T (areKept (attribute s f)) × (attribute s f ≡ 0 → bitsOf s f ≡ 0)) 9 past (λ f h. (p .flags f h .0, λ e. p .flags f h .1 .0 e .0))
+      where
+        past : (f : ℕ) → 9 ≤ f → T (areKept (attribute s f)) × (attribute s f ≡ 0 → bitsOf s f ≡ 0)
+        past f h =
+            let e = List·getD-eq-default (s .attributes) 0 {n = f} (omega (arith, p .sized .attributes#)) in
+            let g = List·getD-eq-default (s .bits) 0 {n = f} (omega (arith, p .sized .bits#)) in
+            (rw e tt, λ _. g)
+
+    -- who is listed is a task
+    listed-task : (t : ℕ) → 1 ≤ rowOf (task s t) → (1 ≤ t) × (t < 25)
+    listed-task t h =
+        let low : t ≡ 0 → ⊥ = λ e. omega (arith, ap (λ u. rowOf (task s u)) e, ap rowOf (p .origin .0), row-none) in
+        let top : 25 ≤ t → ⊥ = λ out. omega (arith, ap rowOf (no-task t out), row-none) in
+        (omega arith, omega arith)
+
+    -- and somebody stands first in its row
+    waits-first : (m t : ℕ) → 1 ≤ m → m ≤ 20 → rowOf (task s t) ≡ m → firstOf (s .waits) m ≡ 0 → ⊥
+    waits-first m t h top e = listed-first (s .waits) 21 (λ t. rowOf (task s t)) sound-waits m (omega arith) t (listed-task t (omega arith) .0) (λ k. omega arith, e)
+
+    waited : (m t : ℕ) → 1 ≤ m → m ≤ 12 → rowOf (task s t) ≡ m → (count s m ≡ 0) × (1 ≤ maximum s m)
+    waited m t h top e =
+        let c = p .counts m (omega arith) .1 .1 (waits-first m t h (omega arith) e) in
         (c .0, let n = c .1 in omega arith)
+
+    unmet : (f t : ℕ) → 1 ≤ f → f ≤ 8 → rowOf (task s t) ≡ f + 12 → (1 ≤ attribute s f) × (isMet (task s t .pattern) (task s t .mode) (bitsOf s f) ≡ false)
+    unmet f t low top e =
+        let w = row-flag (task s t) (each-task t) f low e in
+        let made : attribute s f ≡ 0 → ⊥ = λ z. waits-first (f + 12) t (omega arith) (omega arith) e (rw (flag-row f low top) at (p .flags f (omega arith) .1 .0 z .1)) in
+        (omega arith, rw (w .1) at (p .unmet t (listed-task t (omega arith) .1) (w .0)))
+
+    single : (f t u : ℕ) → 1 ≤ f → f ≤ 8 → T (isSingle (attribute s f)) → rowOf (task s t) ≡ f + 12 → rowOf (task s u) ≡ f + 12 → t ≡ u
+    single f t u low top one d e =
+        second-alone (s .waits) 21 (λ t. rowOf (task s t)) sound-waits (f + 12) (omega arith)
+        (rw (flag-row f low top) at (p .flags f (omega arith) .1 .1 one))
+        t u (listed-task t (omega arith) .0) (listed-task u (omega arith) .0) (λ k. omega arith, d) (λ k. omega arith, e)
 
     parts-sound : Sound s
     parts-sound = record {
@@ -143,6 +176,8 @@ module _ (s : State) where
       charges# = p .sized .charges#;
       counts# = p .sized .counts#;
       maxima# = p .sized .maxima#;
+      attributes# = p .sized .attributes#;
+      bits# = p .sized .bits#;
       origin = p .origin;
       tasks = each-task;
       levels = sound-levels;
@@ -152,6 +187,10 @@ module _ (s : State) where
       counts = λ m. each-count m .0;
       maxima = λ m. each-count m .1;
       waited = waited;
+      attributes = λ f. each-flag f .0;
+      bits = λ f. each-flag f .1;
+      unmet = unmet;
+      single = single;
     }
 
   -- ---- the parts from the statement
@@ -162,11 +201,47 @@ module _ (s : State) where
       (
         h .maxima m,
         λ some.
-            let r = first-listed (s .waits) 13 (λ t. rowOf (task s t)) (h .waits) m k some in
-            let c = h .waited m (firstOf (s .waits) m) (let n = r .0 in omega arith) (r .1) in
+            let r = first-listed (s .waits) 21 (λ t. rowOf (task s t)) (h .waits) m (omega arith) some in
+            let c = h .waited m (firstOf (s .waits) m) (let n = r .0 in omega arith) (omega arith) (r .1) in
             (c .0, λ e. omega arith),
       ),
     )
+
+    flagged : (f : ℕ) → f < 9 → Flagged (attribute s f) (bitsOf s f) (firstOf (s .waits) (flagRow f)) (secondOf (s .waits) (flagRow f))
+    flagged f k = (
+      h .attributes f,
+      (
+        λ e. (h .bits f e, nobody e),
+        λ one. alone-second (s .waits) 21 (λ t. rowOf (task s t)) (h .waits) (flagRow f) in-table
+            (λ t u a b. let r = row-of a in h .single f t u (r .0) (omega arith) one (r .1) (row-of b .1)),
+      ),
+    )
+      where
+        in-table : flagRow f < 21
+        in-table = ⊎-elim
+            (λ (e : f ≡ 0). rw (e, flag-none) (omega arith))
+            (λ (n : f ≡ 0 → ⊥). omega (arith, flag-row f (omega arith) (omega arith)))
+            (same? f 0)
+
+        row-of : {v : ℕ} → Listed (flagRow f) v → (1 ≤ f) × (v ≡ f + 12)
+        row-of r = ⊎-elim
+            (λ (e : f ≡ 0). absurd (r .0 (rw e flag-none)))
+            (λ (n : f ≡ 0 → ⊥). (omega arith, r .1 ∙ flag-row f (omega arith) (omega arith)))
+            (same? f 0)
+
+        nobody : attribute s f ≡ 0 → firstOf (s .waits) (flagRow f) ≡ 0
+        nobody e = ⊎-elim
+            (λ (z : firstOf (s .waits) (flagRow f) ≡ 0). z)
+            (λ (some : firstOf (s .waits) (flagRow f) ≡ 0 → ⊥).
+            let r = row-of (first-listed (s .waits) 21 (λ t. rowOf (task s t)) (h .waits) (flagRow f) in-table some) in
+            absurd (omega (arith, h .unmet f (firstOf (s .waits) (flagRow f)) (r .0) (omega arith) (r .1) .0)))
+            (same? (firstOf (s .waits) (flagRow f)) 0)
+
+    -- whoever waits on a flag is listed by it
+    unmet-now : (t : ℕ) → Unmet (task s t) (bitsOf s (task s t .object))
+    unmet-now t e =
+        let r = h .tasks t .flag e in
+        h .unmet (task s t .object) t (r .0) (r .1) (flag-waits (task s t) (h .tasks t) e) .1
 
     sound-parts : Parts s
     sound-parts = record {
@@ -178,13 +253,17 @@ module _ (s : State) where
         charges# = h .charges#;
         counts# = h .counts#;
         maxima# = h .maxima#;
+        attributes# = h .attributes#;
+        bits# = h .bits#;
       };
       origin = h .origin;
       tasks = λ t k. h .tasks t;
       rates = λ l k. (h .slices l, h .charges l);
       counts = counted;
+      flags = flagged;
+      unmet = λ t k. unmet-now t;
       levels = test-of-lists (s .levels) 31 (λ t. levelOf (task s t)) (λ t. omega (arith, level-most (task s t) (h .tasks t))) (ap levelOf (h .origin .0) ∙ level-none) (h .levels);
-      waits = test-of-lists (s .waits) 13 (λ t. rowOf (task s t)) (λ t. omega (arith, row-most (task s t) (h .tasks t))) (ap rowOf (h .origin .0) ∙ row-none) (h .waits);
+      waits = test-of-lists (s .waits) 21 (λ t. rowOf (task s t)) (λ t. omega (arith, row-most (task s t) (h .tasks t))) (ap rowOf (h .origin .0) ∙ row-none) (h .waits);
     }
 
   says-sound : Says (isSound s) (Sound s)

@@ -1,6 +1,6 @@
 -- A test and the statement that it says: the test of a whole says what the tests of its parts say.
 -- Rests on the words of model/specs/Test alone.
-use mathlib.Core.Path.{_≡_, sym, subst}
+use mathlib.Core.Path.{_≡_, refl, sym, subst}
 use mathlib.Core.Bool.{Bool, true, false, cond, not, _&&_, _||_}
 use mathlib.Core.Logic.{_⊎_, inl, inr, ⊎-elim}
 use Prim.Native.Nat.{ℕ, zero, suc, _≤_, _<_}
@@ -19,6 +19,10 @@ says-as f g h = record { yields = λ t. f (h .yields t); tests = λ x. h .tests 
 
 pub says-same : (b : Bool) → Says b (T b)
 says-same b = record { yields = λ t. t; tests = λ t. t }
+
+pub says-false : (b : Bool) → Says (not b) (b ≡ false)
+says-false true = record { yields = λ t. absurd t; tests = λ e. subst (λ (b : Bool). T (not b)) (sym e) tt }
+says-false false = record { yields = λ t. refl; tests = λ e. tt }
 
 -- ---- numbers
 pub says-eq : {m n : ℕ} → Says (eqb m n) (m ≡ n)

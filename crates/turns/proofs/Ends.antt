@@ -11,15 +11,15 @@ use lib.ListN.{length}
 use borrow.Author.Tests.{eq-eqb, ne-eqb}
 use Rattle.model.specs.declared.Task.{Task}
 use Rattle.model.specs.declared.State.{State}
-use Rattle.model.specs.Task.{nothing, isTimed, ranOut, timeout, dlt, rowOf, dormant, activated, ended, withRemaining, aged}
+use Rattle.model.specs.declared.News.the-variants.{Deleted}
+use Rattle.model.specs.Task.{nothing, aSleep, isTimed, ranOut, timeout, dlt, rowOf, dormant, activated, ended, withRemaining, aged, told}
 use Rattle.model.specs.State.{task, moved}
-use Rattle.model.specs.Effect.{stopped, endedAll, lapsed}
+use Rattle.model.specs.Effect.{stopped, toldAll, lapsed}
 use Rattle.model.specs.Test.{occ, padded}
 use Rattle.laws.proofs.Number.{same?}
 use Rattle.laws.proofs.Occ.{one-ne, occ-none, occ-cons}
-use Rattle.laws.proofs.Padded.{first-none}
-use Rattle.kept.proofs.Records.{row-waits}
-use Rattle.kept.proofs.Effects.{padded-rest}
+use Rattle.laws.proofs.Padded.{padded-rest, first-none}
+use Rattle.laws.proofs.Record.{row-waits}
 use Rattle.turns.specs.Statements.{Ended}
 use Rattle.turns.proofs.Still.{task-kept, task-moved, tasks-moved}
 
@@ -39,17 +39,17 @@ lapsed-at (suc n) i s t long low top = ⊎-elim
     ∙ ap aged (task-kept s i (aged (task s i)) t apart))
     (same? i t)
 
--- who waits on a semaphore waits on, or has run out of time
+-- who waits on a semaphore or a flag waits on, or has run out of time
 pub aged-waits : (x : Task) (m : ℕ) → 1 ≤ m → rowOf x ≡ m → (rowOf (aged x) ≡ m) ⊎ ((aged x .wait ≡ nothing) × (aged x .code ≡ timeout))
 unfolding aged rowOf
 aged-waits x m some e = go (isTimed x) (eqb (x .remaining) 1)
   where
     awake : ranOut x ≡ timeout
-    awake = rw (row-waits x (omega arith))
+    awake = rw (ne-eqb (x .wait) aSleep (λ z. omega (arith, row-waits x (omega arith))))
 
-    go : (a b : Bool) → (rowOf (cond a (cond b (ended x (ranOut x)) (withRemaining x (x .remaining - 1))) x) ≡ m)
-        ⊎ ((cond a (cond b (ended x (ranOut x)) (withRemaining x (x .remaining - 1))) x .wait ≡ nothing)
-        × (cond a (cond b (ended x (ranOut x)) (withRemaining x (x .remaining - 1))) x .code ≡ timeout))
+    go : (a b : Bool) → (rowOf (cond a (cond b (ended x (ranOut x) 0) (withRemaining x (x .remaining - 1))) x) ≡ m)
+        ⊎ ((cond a (cond b (ended x (ranOut x) 0) (withRemaining x (x .remaining - 1))) x .wait ≡ nothing)
+        × (cond a (cond b (ended x (ranOut x) 0) (withRemaining x (x .remaining - 1))) x .code ≡ timeout))
     go true true = inr (refl, awake)
     go true false = inl e
     go false b = inl e
@@ -67,23 +67,23 @@ stopped-at s t long = go (eqb (task s t .activations) 0)
     go false = rw (task-moved (moved t x s) t (activated x) (rw (tasks-moved s t x) long))
 
 -- ---- a deletion
-pub ended-at : (q : List ℕ) (s : State) (t : ℕ) → 1 ≤ t → t < length (s .tasks) → T (padded q) → Ended s t dlt ⊎ (1 ≤ occ t q) → Ended (endedAll q s) t dlt
-unfolding endedAll
+pub ended-at : (q : List ℕ) (s : State) (t : ℕ) → 1 ≤ t → t < length (s .tasks) → T (padded q) → Ended s t dlt ⊎ (1 ≤ occ t q) → Ended (toldAll Deleted q s) t dlt
+unfolding toldAll told
 ended-at [] s t some long ends (inl done) = done
 ended-at [] s t some long ends (inr there) = absurd (omega (arith, occ-none t))
 ended-at (u ∷ q) s t some long ends w = ⊎-elim
     (λ (z : u ≡ 0). rw (eq-eqb u 0 z) (here z w))
-    (λ (n : u ≡ 0 → ⊥). rw (ne-eqb u 0 n) (ended-at q s₁ t some (rw (tasks-moved s u (ended (task s u) dlt)) long) (padded-rest u q n ends) (on (same? u t) w)))
+    (λ (n : u ≡ 0 → ⊥). rw (ne-eqb u 0 n) (ended-at q s₁ t some (rw (tasks-moved s u (ended (task s u) dlt 0)) long) (padded-rest u q ends) (on (same? u t) w)))
     (same? u 0)
   where
     s₁ : State
-    s₁ = moved u (ended (task s u) dlt) s
+    s₁ = moved u (ended (task s u) dlt 0) s
 
     here : u ≡ 0 → Ended s t dlt ⊎ (1 ≤ occ t (u ∷ q)) → Ended s t dlt
     here z (inl done) = done
     here z (inr there) = absurd (omega (arith, first-none (u ∷ q) ends z t some))
 
     on : (u ≡ t) ⊎ (u ≡ t → ⊥) → Ended s t dlt ⊎ (1 ≤ occ t (u ∷ q)) → Ended s₁ t dlt ⊎ (1 ≤ occ t q)
-    on (inl e) w = let z : task s₁ t ≡ ended (task s t) dlt = ap (λ i. task (moved i (ended (task s i) dlt) s) t) e ∙ task-moved s t (ended (task s t) dlt) long in inl (record { over = rw z; code = rw z })
-    on (inr apart) (inl done) = let z = task-kept s u (ended (task s u) dlt) t apart in inl (record { over = rw z (done .over); code = rw z (done .code) })
+    on (inl e) w = let z : task s₁ t ≡ ended (task s t) dlt 0 = ap (λ i. task (moved i (ended (task s i) dlt 0) s) t) e ∙ task-moved s t (ended (task s t) dlt 0) long in inl (record { over = rw z; code = rw z })
+    on (inr apart) (inl done) = let z = task-kept s u (ended (task s u) dlt 0) t apart in inl (record { over = rw z (done .over); code = rw z (done .code) })
     on (inr apart) (inr there) = inr (omega (arith, occ-cons t u q, one-ne u t apart))

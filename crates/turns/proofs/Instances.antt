@@ -58,7 +58,7 @@ signals = byInterrupt (SemIsignal 1) ∷ aTick ∷ byInterrupt (SemIsignal 1) �
 -- 2 holds its resource by the second release
 pub second : HoldsBy 1 2 2 two signals
 unfolding opened two waiting signals releases
-second = waiters-are-served two signals 1 2 2 two-sound (lit≤ tt) refl refl (lit≤ tt)
+second = waiters-are-served two signals 1 2 2 two-sound (lit≤ tt) (lit≤ tt) refl refl (lit≤ tt)
 
 -- and not by the first
 pub not-before : HoldsBy 1 2 1 two signals → ⊥

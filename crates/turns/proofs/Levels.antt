@@ -9,10 +9,13 @@ use native.Mathlib.Nat.{mul-le-mul-right}
 use lib.Dec.{T, eqb}
 use Rattle.model.specs.declared.Task.{Task}
 use Rattle.model.specs.declared.State.{State}
+use Rattle.model.specs.declared.News.{News}
+use Rattle.model.specs.declared.News.the-variants.{Deleted, Bits}
 use Rattle.model.specs.Row.{place}
-use Rattle.model.specs.Task.{isDormant, isSuspended, isWaiting, isRunnable, isTimed, ranOut, dlt, levelOf, noTask, dormant, activated, ended, withRemaining, aged}
+use Rattle.model.specs.Flag.{isMet}
+use Rattle.model.specs.Task.{isDormant, isSuspended, isWaiting, isRunnable, isTimed, ranOut, served, dlt, levelOf, noTask, dormant, activated, ended, withRemaining, aged, told}
 use Rattle.model.specs.State.{task, slice, charge, level, moved}
-use Rattle.model.specs.Effect.{stopped, endedAll, lapsed}
+use Rattle.model.specs.Effect.{stopped, toldAll, lapsed}
 use Rattle.model.specs.Sound.{SoundTask}
 use Rattle.laws.proofs.Padded.{both}
 use Rattle.kept.proofs.Records.{some-of, level-live, live-made}
@@ -50,16 +53,25 @@ level-none = refl
 pub level-top : (x : Task) → SoundTask x → 1 ≤ levelOf x → levelOf x ≤ 30
 level-top x k h = omega (arith, level-priority x h, k .priority (live-made x k (level-live x h .0)))
 
--- a runnable task waits for nothing, so the end of a wait and a tick leave it in its level
-pub level-ended : (x : Task) (v : ℕ) → 1 ≤ levelOf x → levelOf (ended x v) ≡ levelOf x
-level-ended x v h = let e = level-live x h .1 in unfold levelOf in rw e
+-- a runnable task waits for nothing, so the end of a wait, news and a tick leave it in its level
+pub level-ended : (x : Task) (v b : ℕ) → 1 ≤ levelOf x → levelOf (ended x v b) ≡ levelOf x
+level-ended x v b h = let e = level-live x h .1 in unfold levelOf in rw e
+
+pub level-told : (w : News) (x : Task) → 1 ≤ levelOf x → levelOf (told w x) ≡ levelOf x
+unfolding told
+level-told Deleted x h = level-ended x dlt 0 h
+level-told (Bits b) x h = go (isMet (x .pattern) (x .mode) b)
+  where
+    go : (met : Bool) → levelOf (cond met (ended x served b) x) ≡ levelOf x
+    go true = level-ended x served b h
+    go false = refl
 
 pub level-aged : (x : Task) → 1 ≤ levelOf x → levelOf (aged x) ≡ levelOf x
 unfolding aged
 level-aged x h = go (isTimed x) (eqb (x .remaining) 1)
   where
-    go : (a b : Bool) → levelOf (cond a (cond b (ended x (ranOut x)) (withRemaining x (x .remaining - 1))) x) ≡ levelOf x
-    go true true = level-ended x (ranOut x) h
+    go : (a b : Bool) → levelOf (cond a (cond b (ended x (ranOut x) 0) (withRemaining x (x .remaining - 1))) x) ≡ levelOf x
+    go true true = level-ended x (ranOut x) 0 h
     go true false = unfold levelOf in refl
     go false b = refl
 
@@ -86,17 +98,17 @@ rates-stopped s u = go (eqb (task s u .activations) 0)
     go true = rates-moved s u x
     go false = rates-then (rates-moved s u x) (rates-moved (moved u x s) u (activated x))
 
-pub rates-ended : (q : List ℕ) (s : State) → Rates s (endedAll q s)
-unfolding endedAll
-rates-ended [] s = record { slices = refl; charges = refl }
-rates-ended (u ∷ q) s = go (eqb u 0) (rates-ended q (moved u (ended (task s u) dlt) s))
+pub rates-told : (w : News) (q : List ℕ) (s : State) → Rates s (toldAll w q s)
+unfolding toldAll
+rates-told w [] s = record { slices = refl; charges = refl }
+rates-told w (u ∷ q) s = go (eqb u 0) (rates-told w q (moved u (told w (task s u)) s))
   where
     z : State
-    z = moved u (ended (task s u) dlt) s
+    z = moved u (told w (task s u)) s
 
-    go : (b : Bool) → Rates z (endedAll q z) → Rates s (cond b s (endedAll q z))
+    go : (b : Bool) → Rates z (toldAll w q z) → Rates s (cond b s (toldAll w q z))
     go true more = record { slices = refl; charges = refl }
-    go false more = rates-then (rates-moved s u (ended (task s u) dlt)) more
+    go false more = rates-then (rates-moved s u (told w (task s u))) more
 
 pub rates-lapsed : (n i : ℕ) (s : State) → Rates s (lapsed n i s)
 unfolding lapsed

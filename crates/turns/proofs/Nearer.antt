@@ -9,11 +9,14 @@ use lib.Seq.{getD-set-other}
 use Rattle.model.specs.declared.Task.{Task}
 use Rattle.model.specs.declared.State.{State}
 use Rattle.model.specs.declared.Plan.{Plan}
+use Rattle.model.specs.declared.News.{News}
+use Rattle.model.specs.declared.News.the-variants.{Deleted}
 use Rattle.model.specs.Row.{place, first, firstOf}
-use Rattle.model.specs.Task.{served, dlt, released, levelOf, ended, aged}
-use Rattle.model.specs.State.{task, slice, level, waiters, running, moved, counted, sliced, withTime}
+use Rattle.model.specs.Flag.{flagRow}
+use Rattle.model.specs.Task.{served, released, levelOf, ended, aged}
+use Rattle.model.specs.State.{task, slice, level, waiters, running, moved, counted, flagged, sliced, withTime}
 use Rattle.model.specs.Code.{isRefusal}
-use Rattle.model.specs.Effect.{stopped, deleted, charged, ticked, carried}
+use Rattle.model.specs.Effect.{stopped, toldAll, deleted, toldFlag, charged, ticked, carried}
 use Rattle.model.specs.Test.{one}
 use Rattle.model.specs.Sound.{Sound}
 use Rattle.kept.specs.Statements.{stands}
@@ -22,8 +25,8 @@ use Rattle.turns.specs.Kind as Kinds
 use Rattle.turns.specs.Kind.{Kind, setSlice, isTick}
 use Rattle.turns.proofs.Ways as Ways
 use Rattle.turns.proofs.Ways.{Way, refused-none, other-none}
-use Rattle.turns.proofs.Still.{tasks-charged, task-moved, still-moved, still-stopped, still-ended, still-lapsed}
-use Rattle.turns.proofs.Levels.{on-levels, level-ended, level-aged, rates-moved, rates-stopped, rates-ended, rates-lapsed, Nearer, nearer-still, nearer-then}
+use Rattle.turns.proofs.Still.{tasks-charged, task-moved, still-moved, still-stopped, still-told, still-lapsed}
+use Rattle.turns.proofs.Levels.{on-levels, level-ended, level-told, level-aged, rates-moved, rates-stopped, rates-told, rates-lapsed, Nearer, nearer-still, nearer-then}
 use Rattle.turns.proofs.Charged.{low, long, runs-not, nearer-charged}
 
 -- a call of kind j is not a termination of t, and does not set the slice of l
@@ -39,17 +42,23 @@ module _ (s : State) (k : Sound s) (l t : ℕ) (h : 1 ≤ l) (e : levelOf (task 
   moving : (u : ℕ) (x : Task) → (u ≡ t → levelOf x ≡ l) → Nearer l t s (moved u x s) 0
   moving u x keeps = nearer-still (still-moved on-levels l t (low s k l t h e) s u x e keeps) (rates-moved s u x)
 
-  ending : (u v : ℕ) → Nearer l t s (moved u (ended (task s u) v) s) 0
-  ending u v = moving u (ended (task s u) v) (λ z. rw z (level-ended (task s t) v (omega arith) ∙ e))
+  ending : (u v : ℕ) → Nearer l t s (moved u (ended (task s u) v 0) s) 0
+  ending u v = moving u (ended (task s u) v 0) (λ z. rw z (level-ended (task s t) v 0 (omega arith) ∙ e))
 
   stopping : (u : ℕ) → (u ≡ t → ⊥) → Nearer l t s (stopped u s) 0
   stopping u apart = nearer-still (still-stopped on-levels l t (low s k l t h e) s u apart e) (rates-stopped s u)
 
+  -- those in a row of waiters are told
+  telling : (w : News) (n : ℕ) → Nearer l t s (toldAll w (waiters s n) s) 0
+  telling w n = nearer-still (still-told on-levels l t (low s k l t h e) w (waiters s n) s (λ there x z. level-told w x (omega arith) ∙ z) e) (rates-told w (waiters s n) s)
+
   deleting : (n : ℕ) → Nearer l t s (deleted n s) 0
   unfolding deleted counted
-  deleting n =
-      let a = nearer-still (still-ended on-levels l t (low s k l t h e) (waiters s n) s (λ there x z. level-ended x dlt (omega arith) ∙ z) e) (rates-ended (waiters s n) s) in
-      record { steady = a .steady; falls = a .falls }
+  deleting n = let a = telling Deleted n in record { steady = a .steady; falls = a .falls }
+
+  telling-flag : (f : ℕ) (w : News) (a b : ℕ) → Nearer l t s (toldFlag f w a b s) 0
+  unfolding toldFlag flagged
+  telling-flag f w a b = let z = telling w (flagRow f) in record { steady = z .steady; falls = z .falls }
 
   slicing : (j v : ℕ) → (j ≡ l → ⊥) → Nearer l t s (sliced j v s) 0
   unfolding sliced
@@ -82,7 +91,7 @@ module _ (s : State) (k : Sound s) (l t : ℕ) (h : 1 ≤ l) (e : levelOf (task 
 
   pub nearer : {j : Kind} {p : Plan} → Way s j p → (T (not (isRefusal (p .code))) → Spared l t j) → levelOf (task (carried s (p .effect)) t) ≡ l → 1 ≤ slice s l → 1 ≤ place (level s l) t
       → Nearer l t s (carried s (p .effect)) (one (not (isRefusal (p .code)) && (isTick j && (eqb (levelOf (task s (running s))) l && not (eqb (slice s l) 0)))))
-  unfolding carried counted
+  unfolding carried counted flagged
   nearer {j} (Ways.refuses c n) spared after some behind = rw (refused-none (isRefusal c) (isTick j && (eqb (levelOf (task s (running s))) l && not (eqb (slice s l) 0))) n) same
   nearer Ways.ticks spared after some behind = ticking some behind
   nearer (Ways.exits runs) spared after some behind = stopping (running s) (runs-not s k l t h e behind)
@@ -94,6 +103,8 @@ module _ (s : State) (k : Sound s) (l t : ℕ) (h : 1 ≤ l) (e : levelOf (task 
   nearer (Ways.deletes n low top) spared after some behind = deleting n
   nearer Ways.keeps spared after some behind = same
   nearer (Ways.counts n c v) spared after some behind = record { steady = refl; falls = omega arith }
+  nearer (Ways.flags v f a b) spared after some behind = record { steady = refl; falls = omega arith }
+  nearer (Ways.tells f w a b low top) spared after some behind = telling-flag f w a b
   nearer (Ways.moves c u x n keeps) spared after some behind =
       rw (other-none (not (isRefusal c)))
       (moving u x (λ z. ap levelOf (sym (ap (λ i. task (moved i x s) t) z ∙ task-moved s t x (long s k l t h e))) ∙ after))

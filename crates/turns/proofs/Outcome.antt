@@ -10,12 +10,14 @@ use lib.ListN.{length}
 use Rattle.model.specs.declared.Task.{Task}
 use Rattle.model.specs.declared.State.{State}
 use Rattle.model.specs.declared.Plan.{Plan}
-use Rattle.model.specs.declared.Effect.the-variants.{Moves, Deletes, Ticks}
+use Rattle.model.specs.declared.News.{News}
+use Rattle.model.specs.declared.News.the-variants.{Deleted}
+use Rattle.model.specs.declared.Effect.the-variants.{Moves, Deletes, Ticks, Tells}
 use Rattle.model.specs.Row.{place, first, left, row, firstOf, relisted}
 use Rattle.model.specs.Task.{nothing, served, timeout, dlt, released, rowOf, ended, aged}
-use Rattle.model.specs.State.{task, waiters, running, moved, counted, sliced, withTime}
+use Rattle.model.specs.State.{task, waiters, running, moved, counted, flagged, sliced, withTime}
 use Rattle.model.specs.Code.{isRefusal}
-use Rattle.model.specs.Effect.{deleted, charged, lapsed, ticked, carried}
+use Rattle.model.specs.Effect.{toldAll, deleted, toldFlag, charged, lapsed, ticked, carried}
 use Rattle.model.specs.Plan.{does}
 use Rattle.model.specs.Test.{one, occ}
 use Rattle.model.specs.Sound.{Sound}
@@ -23,11 +25,11 @@ use Rattle.laws.proofs.Number.{same?}
 use Rattle.laws.proofs.Table.{first-row}
 use Rattle.laws.proofs.Relisted.{row-relisted-from}
 use Rattle.laws.proofs.Occ.{one-eq, one-ne}
+use Rattle.laws.proofs.Record.{row-waits, flag-row}
 use Rattle.kept.proofs.Listed.{key-of, key-first, listed-in}
-use Rattle.kept.proofs.Records.{row-waits}
-use Rattle.kept.proofs.Effects.{waiter-in}
+use Rattle.kept.proofs.Told.{waiter-in}
 use Rattle.kept.proofs.Running.{runner}
-use Rattle.kept.proofs.Shapes.{refuses, no-waiter}
+use Rattle.kept.proofs.Shape.{no-waiter}
 use Rattle.turns.specs.Kind as Kinds
 use Rattle.turns.specs.Kind.{Kind, forcedRelease, release, deletion, isReleaseOf}
 use Rattle.turns.specs.Statements.{Ended}
@@ -35,7 +37,7 @@ use Rattle.turns.proofs.Places.{place-served}
 use Rattle.turns.proofs.Ways as Ways
 use Rattle.turns.proofs.Ways.{Way, refused-none, other-none}
 use Rattle.turns.proofs.Ends.{lapsed-at, aged-waits, stopped-at, ended-at}
-use Rattle.turns.proofs.Still.{tasks-charged, task-moved, Keyed, Still, still-same, still-then, still-moved, still-stopped, still-ended, still-lapsed}
+use Rattle.turns.proofs.Still.{tasks-charged, task-moved, Keyed, Still, still-same, still-then, still-moved, still-stopped, still-told, still-lapsed}
 
 on-waits : Keyed rowOf (λ s. s .waits)
 unfolding moved
@@ -51,7 +53,7 @@ pub data Outcome (s : State) (m t : ℕ) (k : Kind) (p : Plan) : Type 0 where
   stops : T (not (isRefusal (p .code))) → k ≡ Kinds.terminate t → task (carried s (p .effect)) t .wait ≡ nothing → Outcome s m t k p
   deletes : T (not (isRefusal (p .code))) → k ≡ deletion m → Ended (carried s (p .effect)) t dlt → Outcome s m t k p
 
-module _ (s : State) (k : Sound s) (m t : ℕ) (h : 1 ≤ m) (e : rowOf (task s t) ≡ m) where
+module _ (s : State) (k : Sound s) (m t : ℕ) (h : 1 ≤ m) (top : m ≤ 12) (e : rowOf (task s t) ≡ m) where
   low : 1 ≤ t
   low = waiter-in s k t (omega arith) .0
 
@@ -73,55 +75,65 @@ module _ (s : State) (k : Sound s) (m t : ℕ) (h : 1 ≤ m) (e : rowOf (task s 
   moving : (u : ℕ) (x : Task) → (u ≡ t → rowOf x ≡ m) → Still rowOf (λ z. z .waits) m t s (moved u x s)
   moving u x keeps = still-moved on-waits m t low s u x e keeps
 
-  listed : m ≤ 12 → occ t (waiters s m) ≡ 1
-  listed top = listed-in (s .waits) 13 (λ u. rowOf (task s u)) (k .waits) m t (omega arith) low h e
+  listed : occ t (waiters s m) ≡ 1
+  listed = listed-in (s .waits) 21 (λ u. rowOf (task s u)) (k .waits) m t (omega arith) low h e
 
   -- its own wait ends
-  over : (u v : ℕ) → u ≡ t → Ended (moved u (ended (task s u) v) s) t v
+  over : (u v : ℕ) → u ≡ t → Ended (moved u (ended (task s u) v 0) s) t v
   over u v z =
-      let y : task (moved u (ended (task s u) v) s) t ≡ ended (task s t) v = ap (λ i. task (moved i (ended (task s i) v) s) t) z ∙ task-moved s t (ended (task s t) v) long in
+      let y : task (moved u (ended (task s u) v 0) s) t ≡ ended (task s t) v 0 = ap (λ i. task (moved i (ended (task s i) v 0) s) t) z ∙ task-moved s t (ended (task s t) v 0) long in
       record { over = rw y; code = rw y }
 
   -- the first of its queue is served
-  first-leaves : (u : ℕ) → m ≤ 12 → firstOf (s .waits) m ≡ u → rowOf (task s u) ≡ m → (u ≡ t → ⊥)
-      → suc (place (waiters (moved u (ended (task s u) served) s) m) t) ≤ place (waiters s m) t
+  first-leaves : (u : ℕ) → firstOf (s .waits) m ≡ u → rowOf (task s u) ≡ m → (u ≡ t → ⊥)
+      → suc (place (waiters (moved u (ended (task s u) served 0) s) m) t) ≤ place (waiters s m) t
   unfolding moved rowOf
-  first-leaves u top f g apart =
+  first-leaves u f g apart =
       let q : first (waiters s m) ≡ u = sym (first-row (s .waits) m) ∙ f in
       let z : row (relisted (s .waits) (rowOf (task s u)) 0 u) m ≡ left (waiters s m) (first (waiters s m)) =
       ap (λ i. row (relisted (s .waits) i 0 u) m) g ∙ row-relisted-from (s .waits) m 0 u (λ y. omega arith) (λ y. omega arith) ∙ ap (left (waiters s m)) (sym q) in
-      rw z (place-served (waiters s m) t (omega (arith, listed top)) (λ y. apart (sym q ∙ y)))
+      rw z (place-served (waiters s m) t (omega (arith, listed)) (λ y. apart (sym q ∙ y)))
 
   serving : (n : ℕ) → n ≤ 12 → 1 ≤ firstOf (s .waits) n
-      → Outcome s m t (release n) (does (Moves (firstOf (s .waits) n) (ended (task s (firstOf (s .waits) n)) served)))
+      → Outcome s m t (release n) (does (Moves (firstOf (s .waits) n) (ended (task s (firstOf (s .waits) n)) served 0)))
   unfolding carried
-  serving n top some = go (same? u t) (same? n m)
+  serving n most some = go (same? u t) (same? n m)
     where
       u : ℕ
       u = firstOf (s .waits) n
 
       g : rowOf (task s u) ≡ n
-      g = key-first (s .waits) 13 (λ i. rowOf (task s i)) (k .waits) n (omega arith) (λ z. omega arith) .1
+      g = key-first (s .waits) 21 (λ i. rowOf (task s i)) (k .waits) n (omega arith) (λ z. omega arith) .1
 
-      go : (u ≡ t) ⊎ (u ≡ t → ⊥) → (n ≡ m) ⊎ (n ≡ m → ⊥) → Outcome s m t (release n) (does (Moves u (ended (task s u) served)))
+      go : (u ≡ t) ⊎ (u ≡ t → ⊥) → (n ≡ m) ⊎ (n ≡ m → ⊥) → Outcome s m t (release n) (does (Moves u (ended (task s u) served 0)))
       go (inl z) b = let y : n ≡ m = sym g ∙ ap (λ i. rowOf (task s i)) z ∙ e in holds (rw y (eqb-refl m)) (over u served z)
       go (inr apart) (inl y) =
-          waits (moving u (ended (task s u) served) (λ z. absurd (apart z)) .keyed)
-          (omega (arith, one-eq n m y, first-leaves u (omega arith) (ap (firstOf (s .waits)) (sym y)) (g ∙ y) apart))
-      go (inr apart) (inr other) = on (moving u (ended (task s u) served) (λ z. absurd (apart z))) (one-ne n m other)
+          waits (moving u (ended (task s u) served 0) (λ z. absurd (apart z)) .keyed)
+          (omega (arith, one-eq n m y, first-leaves u (ap (firstOf (s .waits)) (sym y)) (g ∙ y) apart))
+      go (inr apart) (inr other) = on (moving u (ended (task s u) served 0) (λ z. absurd (apart z))) (one-ne n m other)
+
+  -- those in another row are told
+  others : (w : News) (n : ℕ) → n ≤ 20 → (n ≡ m → ⊥) → Still rowOf (λ z. z .waits) m t s (toldAll w (waiters s n) s)
+  others w n most apart = still-told on-waits m t low w (waiters s n) s
+      (λ there. absurd (apart (sym (key-of (s .waits) 21 (λ i. rowOf (task s i)) (k .waits) n t (omega arith) low there .1) ∙ e))) e
 
   deleting : (n : ℕ) → 1 ≤ n → n ≤ 12 → Outcome s m t (deletion n) (does (Deletes n))
   unfolding carried deleted counted
-  deleting n some top = go (same? n m)
+  deleting n some most = go (same? n m)
     where
       go : (n ≡ m) ⊎ (n ≡ m → ⊥) → Outcome s m t (deletion n) (does (Deletes n))
       go (inl y) =
-          let a = ended-at (waiters s n) s t low long (k .waits .ends n (omega arith)) (inr (rw y (omega (arith, listed (omega arith))))) in
+          let a = ended-at (waiters s n) s t low long (k .waits .ends n (omega arith)) (inr (rw y (omega (arith, listed)))) in
           deletes tt (ap deletion y) (record { over = a .over; code = a .code })
       go (inr other) =
-          let a = still-ended on-waits m t low (waiters s n) s
-          (λ there. absurd (other (sym (key-of (s .waits) 13 (λ i. rowOf (task s i)) (k .waits) n t (omega arith) low there .1) ∙ e))) e in
+          let a = others Deleted n (omega arith) other in
           on (record { keyed = a .keyed; nearer = a .nearer }) refl
+
+  telling : (f : ℕ) (w : News) (a b : ℕ) → 1 ≤ f → f ≤ 8 → Outcome s m t Kinds.other (does (Tells f w a b))
+  unfolding carried toldFlag flagged
+  telling f w a b some most =
+      let z = rw (← flag-row f some most) at (others w (f + 12) (omega arith) (λ y. omega arith)) in
+      on (record { keyed = z .keyed; nearer = z .nearer }) refl
 
   ticking : Outcome s m t Kinds.tick (does Ticks)
   unfolding carried ticked
@@ -143,7 +155,7 @@ module _ (s : State) (k : Sound s) (m t : ℕ) (h : 1 ≤ m) (e : rowOf (task s 
           lapses tt refl (record { over = rw y (w .0); code = rw y (w .1) })
 
   pub outcome : {j : Kind} {p : Plan} → Way s j p → Outcome s m t j p
-  unfolding carried counted sliced
+  unfolding carried counted flagged sliced
   outcome {j} (Ways.refuses c n) = on same (refused-none (isRefusal c) (isReleaseOf m j) n)
   outcome Ways.ticks = ticking
   outcome (Ways.exits some) =
@@ -154,14 +166,16 @@ module _ (s : State) (k : Sound s) (m t : ℕ) (h : 1 ≤ m) (e : rowOf (task s 
       (same? u t)
   outcome (Ways.forces u) = ⊎-elim
       (λ (z : u ≡ t). forced tt (ap forcedRelease z) (over u released z))
-      (λ (apart : u ≡ t → ⊥). on (moving u (ended (task s u) released) (λ z. absurd (apart z))) refl)
+      (λ (apart : u ≡ t → ⊥). on (moving u (ended (task s u) released 0) (λ z. absurd (apart z))) refl)
       (same? u t)
   outcome (Ways.slices l v) = on (untouched (sliced l v s) refl refl) refl
-  outcome (Ways.serves n top some) = serving n top some
-  outcome (Ways.raises n c v top free) =
+  outcome (Ways.serves n most some) = serving n most some
+  outcome (Ways.raises n c v most free) =
       on (untouched (counted n c v s) refl refl) (one-ne n m (λ y. no-waiter s k m h (omega arith) (rw y at free) t e))
-  outcome (Ways.deletes n some top) = deleting n some top
+  outcome (Ways.deletes n some most) = deleting n some most
   outcome Ways.keeps = on same refl
   outcome (Ways.counts n c v) = on (untouched (counted n c v s) refl refl) refl
+  outcome (Ways.flags v f a b) = on (untouched (flagged f a b s) refl refl) refl
+  outcome (Ways.tells f w a b some most) = telling f w a b some most
   outcome (Ways.moves c u x n keeps) =
       on (moving u x (λ z. let y = ap (λ i. rowOf (task s i)) z ∙ e in keeps k (omega arith) ∙ y)) (other-none (not (isRefusal c)))

@@ -21,12 +21,12 @@ use Rattle.turns.specs.Statements.{next, isRelease, releases, WaitsOn, H
 use Rattle.turns.proofs.Ways.{way}
 use Rattle.turns.proofs.Outcome.{Outcome, waits, holds, lapses, forced, stops, deletes, outcome}
 
-held : (m t : ℕ) → 1 ≤ m → (calls : List (Context × Call)) (s : State) (n : ℕ) → Sound s → WaitsOn s m t → place (waiters s m) t + 1 ≤ n → n ≤ releases s calls m
+held : (m t : ℕ) → 1 ≤ m → m ≤ 12 → (calls : List (Context × Call)) (s : State) (n : ℕ) → Sound s → WaitsOn s m t → place (waiters s m) t + 1 ≤ n → n ≤ releases s calls m
     → HoldsBy m t n s calls
 unfolding step releases
-held m t h [] s n k e turn enough = absurd (omega arith)
-held m t h (a ∷ rest) s n k e turn enough =
-    go (outcome s k m t h e (way s (a .0) (a .1))) (λ j. held m t h rest (next s a) j (sound-stays-sound s (a .0) (a .1) k))
+held m t h top [] s n k e turn enough = absurd (omega arith)
+held m t h top (a ∷ rest) s n k e turn enough =
+    go (outcome s k m t h top e (way s (a .0) (a .1))) (λ j. held m t h top rest (next s a) j (sound-stays-sound s (a .0) (a .1) k))
   where
     goes : (b : Bool) (n : ℕ) → isRelease s a m ≡ b → WaitsOn (next s a) m t → place (waiters (next s a) m) t + one b + 1 ≤ n → n ≤ one b + releases (next s a) rest m
         → ((j : ℕ) → WaitsOn (next s a) m t → place (waiters (next s a) m) t + 1 ≤ j → j ≤ releases (next s a) rest m → HoldsBy m t j (next s a) rest)
@@ -51,4 +51,4 @@ held m t h (a ∷ rest) s n k e turn enough =
     go (deletes ok y d) more = some n (omega arith) (λ j. Say.sooner (Say.byDeletion (record { accepted = ok; is = y }) d))
 
 pub waiters-are-served : WaitersAreServed
-waiters-are-served s calls m t p k h e y enough = held m t h calls s p k e (omega arith) enough
+waiters-are-served s calls m t p k h top e y enough = held m t h top calls s p k e (omega arith) enough

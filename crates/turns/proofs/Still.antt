@@ -1,5 +1,5 @@
--- A task that keeps its key keeps its row and stands no later in it, whatever is moved, stopped, ended or lapsed.
--- It goes by `moved` of model/specs/State alone, for levels and semaphores at once: a key, a table, and how a move relists it.
+-- A task that keeps its key keeps its row and stands no later in it, whatever is moved, stopped, told or lapsed.
+-- It goes by `moved` of model/specs/State alone, for levels and waits at once: a key, a table, and how a move relists it.
 use mathlib.Core.Path.{_≡_, refl, sym, ap, _∙_, subst}
 use mathlib.Core.Bool.{Bool, true, false, cond}
 use mathlib.Core.List.{List, [], _∷_}
@@ -13,9 +13,10 @@ use borrow.Author.Tests.{eq-eqb, ne-eqb}
 use Rattle.model.specs.declared.Task.{Task}
 use Rattle.model.specs.declared.State.{State}
 use Rattle.model.specs.Row.{place, row, relisted}
-use Rattle.model.specs.Task.{noTask, dormant, activated, ended, dlt, aged}
+use Rattle.model.specs.declared.News.{News}
+use Rattle.model.specs.Task.{noTask, dormant, activated, aged, told}
 use Rattle.model.specs.State.{task, slice, charge, moved, withCharge, rotated}
-use Rattle.model.specs.Effect.{stopped, endedAll, chargedLevel, charged, lapsed}
+use Rattle.model.specs.Effect.{stopped, toldAll, chargedLevel, charged, lapsed}
 use Rattle.model.specs.Test.{occ}
 use Rattle.laws.proofs.Number.{same?, below?}
 use Rattle.laws.proofs.Occ.{occ-cons, one-eq}
@@ -98,15 +99,15 @@ module _ {key : Task → ℕ} {table : State → List ℕ} (keyed : Keyed key ta
       go true = a
       go false = still-then a (still-moved (moved u x s) u (activated x) (a .keyed) (λ z. absurd (apart z)))
 
-  -- the waits of a queue end
-  pub still-ended : (q : List ℕ) (s : State) → (1 ≤ occ t q → (x : Task) → key x ≡ l → key (ended x dlt) ≡ l) → key (task s t) ≡ l → Still key table l t s (endedAll q s)
-  unfolding endedAll
-  still-ended [] s keeps e = still-same s e
-  still-ended (u ∷ q) s keeps e = ⊎-elim
+  -- those in a queue are told
+  pub still-told : (w : News) (q : List ℕ) (s : State) → (1 ≤ occ t q → (x : Task) → key x ≡ l → key (told w x) ≡ l) → key (task s t) ≡ l → Still key table l t s (toldAll w q s)
+  unfolding toldAll
+  still-told w [] s keeps e = still-same s e
+  still-told w (u ∷ q) s keeps e = ⊎-elim
       (λ (z : u ≡ 0). rw (eq-eqb u 0 z) (still-same s e))
       (λ (n : u ≡ 0 → ⊥). rw (ne-eqb u 0 n)
-      (let a = still-moved s u (ended (task s u) dlt) e (λ z. rw z (keeps (omega (arith, occ-cons t u q, one-eq u t z)) (task s t) e)) in
-      still-then a (still-ended q (moved u (ended (task s u) dlt) s) (λ there. keeps (omega (arith, occ-cons t u q))) (a .keyed))))
+      (let a = still-moved s u (told w (task s u)) e (λ z. rw z (keeps (omega (arith, occ-cons t u q, one-eq u t z)) (task s t) e)) in
+      still-then a (still-told w q (moved u (told w (task s u)) s) (λ there. keeps (omega (arith, occ-cons t u q))) (a .keyed))))
       (same? u 0)
 
   -- timeouts fall

@@ -8,26 +8,32 @@ use lib.Dec.{T, eqb, leb, ltb, eqb→eq}
 use Rattle.model.specs.declared.Task.{Task}
 use Rattle.model.specs.declared.State.{State}
 use Rattle.model.specs.declared.Plan.{Plan}
-use Rattle.model.specs.declared.Effect.the-variants.{Nothing, Moves, Stops, Counts, Deletes, Slices, Ticks}
+use Rattle.model.specs.declared.News.{News}
+use Rattle.model.specs.declared.Effect.the-variants.{Nothing, Moves, Stops, Counts, Deletes, Slices, Ticks, Flags, Tells}
 use Rattle.model.specs.declared.Code.{Code}
 use Rattle.model.specs.declared.Code.the-variants.{WContext, WrongParam, NoExs}
 use Rattle.model.specs.declared.Context.{Context}
 use Rattle.model.specs.declared.Call.{Call}
 use Rattle.model.specs.declared.Call.the-variants.{TaskCreate, TaskDelete, TaskActivate, TaskIactivate, TaskExit, TaskTerminate, TaskSuspend, TaskResume, TaskSleep, TaskWakeup, TaskIwakeup, TaskReleaseWait, TaskIreleaseWait, TaskChangePriority}
-use Rattle.model.specs.declared.Call.the-variants.{SysTsliceTicks, TickIntProcessing, SemCreate, SemDelete, SemSignal, SemIsignal, SemAcquire, SemPolling, SemIpolling}
+use Rattle.model.specs.declared.Call.the-variants.{SysTsliceTicks, TickIntProcessing, SemCreate, SemDelete, SemSignal, SemIsignal, SemAcquire, SemPolling, SemIpolling, Event}
+use Rattle.model.specs.declared.Event as Events
+use Rattle.model.specs.declared.Event.the-variants.{Create, Delete, Set, Iset, Clear, Iclear, Wait, WaitPolling, Iwait}
 use Rattle.model.specs.Row.{firstOf}
-use Rattle.model.specs.Task.{isCreated, isDormant, isSuspended, isWaiting, isAsleep, aSleep, aSemaphore, served, released, rowOf, ended}
-use Rattle.model.specs.State.{task, count, maximum, semaphore, running}
+use Rattle.model.specs.Flag.{isAttributes, isMet, flagRow}
+use Rattle.model.specs.Task.{isCreated, isDormant, isSuspended, isWaiting, isAsleep, aSleep, served, released, rowOf, ended}
+use Rattle.model.specs.State.{task, count, maximum, bitsOf, semaphore, flag, running}
 use Rattle.model.specs.Code.{isRefusal}
-use Rattle.model.specs.Plan.{isTask, isPriority, isSemaphore, isMaximum, isTimeout, isSlice, isMade, does, answers, refused, need, checked}
+use Rattle.model.specs.Plan.{isTask, isPriority, isSemaphore, isMaximum, isTimeout, isSlice, isMade, isFlag, isPattern, isMode, isFlagMade, does, answers, gives, refused, need, checked}
 use Rattle.model.specs.Service.{create, delete, activate, exit, terminate, suspend, resume, sleep, wakeup, releaseWait, wanted, changePriority, tsliceTicks, tick, semCreate, semDelete, signal, acquire, polling}
-use Rattle.model.specs.Call.{inT, inI, plan, planned}
+use Rattle.model.specs.Service.{eventCreate, eventDelete, eventSet, eventClear, isOccupied, taken, eventWait, eventPoll}
+use Rattle.model.specs.Call.{inT, inI, eventSubject, eventPlan, plan, planned}
 use Rattle.model.specs.Test.{one}
 use Rattle.model.specs.Sound.{SoundTask, Sound}
 use Rattle.laws.proofs.Padded.{both}
-use Rattle.kept.proofs.Records.{some-of, none-of, row-waits}
+use Rattle.laws.proofs.Record.{row-waits}
+use Rattle.kept.proofs.Records.{some-of, none-of}
 use Rattle.kept.proofs.Running.{runner}
-use Rattle.kept.proofs.Shapes.{range}
+use Rattle.kept.proofs.Shape.{range}
 use Rattle.turns.specs.Kind as Kinds
 use Rattle.turns.specs.Kind.{Kind, other, forcedRelease, setSlice, release, deletion, kind}
 
@@ -36,14 +42,16 @@ pub data Way (s : State) : Kind → Plan → Type 0 where
   ticks : Way s Kinds.tick (does Ticks)
   exits : 1 ≤ running s → Way s Kinds.exit (does (Stops (running s)))
   terminates : (u : ℕ) → Way s (Kinds.terminate u) (does (Stops u))
-  forces : (u : ℕ) → Way s (forcedRelease u) (does (Moves u (ended (task s u) released)))
+  forces : (u : ℕ) → Way s (forcedRelease u) (does (Moves u (ended (task s u) released 0)))
   slices : (l v : ℕ) → Way s (setSlice l) (does (Slices l v))
-  serves : (m : ℕ) → m ≤ 12 → 1 ≤ firstOf (s .waits) m → Way s (release m) (does (Moves (firstOf (s .waits) m) (ended (task s (firstOf (s .waits) m)) served)))
+  serves : (m : ℕ) → m ≤ 12 → 1 ≤ firstOf (s .waits) m → Way s (release m) (does (Moves (firstOf (s .waits) m) (ended (task s (firstOf (s .waits) m)) served 0)))
   raises : (m n v : ℕ) → m ≤ 12 → firstOf (s .waits) m ≡ 0 → Way s (release m) (does (Counts m n v))
   deletes : (m : ℕ) → 1 ≤ m → m ≤ 12 → Way s (deletion m) (does (Deletes m))
-  -- any other call lets a waiter wait as it did
+  -- any other call lets those who wait on semaphores wait as they did
   keeps : Way s other (does Nothing)
   counts : (m n v : ℕ) → Way s other (does (Counts m n v))
+  flags : (v f a b : ℕ) → Way s other (gives v (Flags f a b))
+  tells : (f : ℕ) (w : News) (a b : ℕ) → 1 ≤ f → f ≤ 8 → Way s other (does (Tells f w a b))
   moves : (c : Code) (u : ℕ) (x : Task) → T (not (isRefusal c)) → (Sound s → 1 ≤ rowOf (task s u) → rowOf x ≡ rowOf (task s u)) → Way s other (answers c (Moves u x))
 
 -- ---- what counts: nothing of a refusal, and nothing of a call of another kind
@@ -71,15 +79,15 @@ module _ {s : State} {k : Kind} where
       needs there NoExs (need mine WContext p) tt (λ g. needs mine WContext p tt (λ _. f h g)))
 
 module _ (s : State) where
-  -- ---- records of those who do not wait on a semaphore
-  idle : {A : Type 0} (x : Task) → (x .wait ≡ aSemaphore → ⊥) → 1 ≤ rowOf x → A
-  idle x free h = absurd (free (row-waits x h))
+  -- ---- records of those who wait on no semaphore and no flag
+  idle : {A : Type 0} (x : Task) → x .wait ≤ aSleep → 1 ≤ rowOf x → A
+  idle x free h = absurd (omega (arith, row-waits x h))
 
   dormant-idle : {A : Type 0} (x : Task) → SoundTask x → x .active ≡ 0 → 1 ≤ rowOf x → A
-  dormant-idle x k e = idle x (λ z. omega (arith, k .dormant e .0))
+  dormant-idle x k e = idle x (omega (arith, k .dormant e .0))
 
   runs-idle : {A : Type 0} → Sound s → T (not (eqb (running s) 0)) → 1 ≤ rowOf (task s (running s)) → A
-  runs-idle k h = idle (task s (running s)) (λ z. omega (arith, runner s k (some-of (running s) h) .idle))
+  runs-idle k h = idle (task s (running s)) (omega (arith, runner s k (some-of (running s) h) .idle))
 
   -- ---- tasks
   way-create : (mine : Bool) (t p o : ℕ) → Way s other (create mine t p o (task s t))
@@ -88,7 +96,7 @@ module _ (s : State) where
       let a = both (isTask t) (isPriority p && (leb o 1 && not (isCreated (task s t)))) h in
       let b = both (isPriority p) (leb o 1 && not (isCreated (task s t))) (a .1) in
       let e = none-of (task s t .base) (both (leb o 1) (not (isCreated (task s t))) (b .1) .1) in
-      moves _ _ _ tt (λ k. idle (task s t) (λ z. omega (arith, ap (λ (x : Task). x .wait) (k .tasks t .blank e)))))
+      moves _ _ _ tt (λ k. idle (task s t) (omega (arith, ap (λ (x : Task). x .wait) (k .tasks t .blank e)))))
 
   way-delete : (mine : Bool) (t : ℕ) → Way s other (delete mine t (task s t))
   unfolding delete
@@ -126,7 +134,7 @@ module _ (s : State) where
   way-wakeup : (mine : Bool) (t : ℕ) → Way s other (wakeup mine t (task s t))
   unfolding wakeup rowOf
   way-wakeup mine t = checks (isTask t) (isCreated (task s t)) mine _ (λ _ _. needs (not (isDormant (task s t))) _ _ tt (λ _. picks (isAsleep (task s t)) _ _
-      (λ sleeps. moves _ _ _ tt (λ _. idle (task s t) (λ z. omega (arith, eqb→eq (task s t .wait) aSleep sleeps))))
+      (λ sleeps. moves _ _ _ tt (λ _. idle (task s t) (omega (arith, eqb→eq (task s t .wait) aSleep sleeps))))
       (λ _. needs (eqb (task s t .wakeups) 0) _ _ tt (λ _. moves _ _ _ tt (λ _ _. refl)))))
 
   way-releaseWait : (mine : Bool) (t : ℕ) → Way s (forcedRelease t) (releaseWait mine t (task s t))
@@ -171,6 +179,45 @@ module _ (s : State) where
   unfolding polling
   way-polling mine m = checks (isSemaphore m) (isMade (semaphore s m)) mine _ (λ _ _. needs (not (eqb (count s m) 0)) _ _ tt (λ _. counts m (count s m - 1) (maximum s m)))
 
+  -- ---- event flags
+  way-eventCreate : (mine : Bool) (f a b : ℕ) → Way s other (eventCreate mine f a b (flag s f))
+  unfolding eventCreate
+  way-eventCreate mine f a b = checks (isFlag f && (isAttributes a && not (isFlagMade (flag s f)))) true mine _ (λ _ _. flags 0 f (a + 1) b)
+
+  way-eventDelete : (mine : Bool) (f : ℕ) → Way s other (eventDelete mine f (flag s f))
+  unfolding eventDelete
+  way-eventDelete mine f = checks (isFlag f) (isFlagMade (flag s f)) mine _ (λ h _. let r = range 1 f 8 h in tells f _ _ _ (r .0) (r .1))
+
+  way-eventSet : (mine : Bool) (f p : ℕ) → Way s other (eventSet mine f p (task s (firstOf (s .waits) (flagRow f))) (flag s f))
+  unfolding eventSet
+  way-eventSet mine f p = checks (isFlag f && isPattern p) (isFlagMade (flag s f)) mine _ (λ h _. let r = range 1 f 8 (both (isFlag f) (isPattern p) h .0) in tells f _ _ _ (r .0) (r .1))
+
+  way-eventClear : (mine : Bool) (f p : ℕ) → Way s other (eventClear mine f p (flag s f))
+  unfolding eventClear
+  way-eventClear mine f p = checks (isFlag f && isPattern p) (isFlagMade (flag s f)) mine _ (λ _ _. flags 0 f _ _)
+
+  way-eventWait : (mine : Bool) (f p m d : ℕ) → Way s other (eventWait mine f p m d (running s) (task s (running s)) (flag s f))
+  unfolding eventWait taken
+  way-eventWait mine f p m d = checks (isFlag f && (isPattern p && (isMode m && isTimeout d))) (isFlagMade (flag s f)) mine _ (λ _ _. needs (not (eqb (running s) 0)) _ _ tt (λ some.
+      needs (not (isOccupied (flag s f))) _ _ tt (λ _. picks (isMet p m (bitsOf s f)) _ _ (λ _. flags _ f _ _) (λ _. moves _ _ _ tt (λ k. runs-idle k some)))))
+
+  way-eventPoll : (mine : Bool) (f p m : ℕ) → Way s other (eventPoll mine f p m (flag s f))
+  unfolding eventPoll taken
+  way-eventPoll mine f p m = checks (isFlag f && (isPattern p && isMode m)) (isFlagMade (flag s f)) mine _ (λ _ _. needs (not (isOccupied (flag s f))) _ _ tt (λ _.
+      needs (isMet p m (bitsOf s f)) _ _ tt (λ _. flags _ f _ _)))
+
+  way-event : (c : Context) (f : ℕ) (e : Events.Event) → Way s other (eventPlan c f e (running s) (task s (eventSubject e (running s) (firstOf (s .waits) (flagRow f)))) (flag s f))
+  unfolding eventPlan
+  way-event c f (Create a b) = way-eventCreate (inT c) f a b
+  way-event c f Delete = way-eventDelete (inT c) f
+  way-event c f (Set b) = way-eventSet (inT c) f b
+  way-event c f (Iset b) = way-eventSet (inI c) f b
+  way-event c f (Clear b) = way-eventClear (inT c) f b
+  way-event c f (Iclear b) = way-eventClear (inI c) f b
+  way-event c f (Wait p m d) = way-eventWait (inT c) f p m d
+  way-event c f (WaitPolling p m) = way-eventPoll (inT c) f p m
+  way-event c f (Iwait p m) = way-eventPoll (inI c) f p m
+
 -- ---- every call
 pub way : (s : State) (c : Context) (a : Call) → Way s (kind a) (planned s c a)
 unfolding planned plan
@@ -197,3 +244,4 @@ way s c (SemIsignal m) = way-signal s (inI c) m
 way s c (SemAcquire m d) = way-acquire s (inT c) m d
 way s c (SemPolling m) = way-polling s (inT c) m
 way s c (SemIpolling m) = way-polling s (inI c) m
+way s c (Event f e) = way-event s c f e

@@ -45,6 +45,7 @@ unfoldable pub releases : State → List (Context × Call) → ℕ → ℕ
 releases s [] m = 0
 releases s (a ∷ rest) m = one (isRelease s a m) + releases (next s a) rest m
 
+-- t waits on semaphore m, which is 1 to 12: the table's rows past these are the flags'
 abbrev pub WaitsOn : State → ℕ → ℕ → Type 0
 WaitsOn s m t = rowOf (task s t) ≡ m
 
@@ -78,7 +79,7 @@ pub data HoldsBy (m t : ℕ) : ℕ → State → List (Context × Call) → Type
 abbrev pub WaitersAreServed : Type 0
 WaitersAreServed = (s : State) (calls : List (Context × Call)) (m t p : ℕ)
     → Sound s
-    → 1 ≤ m → WaitsOn s m t → placeIn (waiters s m) t ≡ p
+    → 1 ≤ m → m ≤ 12 → WaitsOn s m t → placeIn (waiters s m) t ≡ p
     → p ≤ releases s calls m
     → HoldsBy m t p s calls
 

@@ -1,12 +1,12 @@
--- `plans_event::event_poll` meets its contract: test by test.
+-- `plans_event::poll::event_poll` meets its contract: test by test.
 -- It rests on the contracts of what it calls, and on the laws of tests.
 use native.Mathlib.Omega.{arith}
 use borrow.Author.Needs.{needs}
 use borrow.Author.Tests.{eq-eqb, ne-eqb, le-leb, lt-leb, not-true, not-false}
 use Rattle.model.specs.Service.{eventPoll}
 use Rattle.checks.proofs.Laws.{fails, holds, within-top}
-use Rattle.plans_event.proofs.event_poll.Statement.{statement}
-use Rattle.plans_event.proofs.event_poll.Tie as tie
+use Rattle.plans_event.proofs.poll.event_poll.Statement.{statement}
+use Rattle.plans_event.proofs.poll.event_poll.Tie as tie
 
 is-flag-requires : tie.Need-is-flag-requires
 is-flag-requires c κs = search needs
@@ -49,22 +49,22 @@ returns-5 c = rw (c .refused5 .ensures, holds (c .before .before .before .before
 is-occupied-requires : tie.Need-is-occupied-requires
 is-occupied-requires c κs = search needs
 
+is-met-requires : tie.Need-is-met-requires
+is-met-requires c κs = search needs
+
 refused-requires-6 : tie.Need-refused-requires-6
 refused-requires-6 c κs = search needs
 
 returns-6 : tie.Need-returns-6
 unfolding eventPoll
-returns-6 c = rw (c .refused6 .ensures, holds (c .before .before .before .before .before .before .before .before .is-flag .ensures) (c .before .before .before .before .before .before .before .if1 .left), ne-eqb _ _ (c .before .before .before .before .before .before .if2 .left), le-leb _ _ (c .before .before .before .before .before .if3 .left), ne-eqb _ _ (c .before .before .before .before .if4 .left), not-false (c .before .before .before .before .before .before .before .before .before .args .mine) (c .before .before .before .if5 .left), ← c .before .before .is-occupied .ensures, c .before .if6 .taken)
-
-is-met-requires : tie.Need-is-met-requires
-is-met-requires c κs = search needs
+returns-6 c = rw (c .refused6 .ensures, holds (c .before .before .before .before .before .before .before .before .before .is-flag .ensures) (c .before .before .before .before .before .before .before .before .if1 .left), ne-eqb _ _ (c .before .before .before .before .before .before .before .if2 .left), le-leb _ _ (c .before .before .before .before .before .before .if3 .left), ne-eqb _ _ (c .before .before .before .before .before .if4 .left), not-false (c .before .before .before .before .before .before .before .before .before .before .args .mine) (c .before .before .before .before .if5 .left), ← c .before .before .before .is-occupied .ensures, c .before .if6 .taken)
 
 refused-requires-7 : tie.Need-refused-requires-7
 refused-requires-7 c κs = search needs
 
 returns-7 : tie.Need-returns-7
 unfolding eventPoll
-returns-7 c = rw (c .refused7 .ensures, holds (c .before .before .before .before .before .before .before .before .before .before .is-flag .ensures) (c .before .before .before .before .before .before .before .before .before .if1 .left), ne-eqb _ _ (c .before .before .before .before .before .before .before .before .if2 .left), le-leb _ _ (c .before .before .before .before .before .before .before .if3 .left), ne-eqb _ _ (c .before .before .before .before .before .before .if4 .left), not-false (c .before .before .before .before .before .before .before .before .before .before .before .args .mine) (c .before .before .before .before .before .if5 .left), ← c .before .before .before .before .is-occupied .ensures, c .before .before .before .if6 .left, fails (c .before .before .is-met .ensures) (c .before .if7 .taken))
+returns-7 c = rw (c .refused7 .ensures, holds (c .before .before .before .before .before .before .before .before .before .before .is-flag .ensures) (c .before .before .before .before .before .before .before .before .before .if1 .left), ne-eqb _ _ (c .before .before .before .before .before .before .before .before .if2 .left), le-leb _ _ (c .before .before .before .before .before .before .before .if3 .left), ne-eqb _ _ (c .before .before .before .before .before .before .if4 .left), not-false (c .before .before .before .before .before .before .before .before .before .before .before .args .mine) (c .before .before .before .before .before .if5 .left), ← c .before .before .before .before .is-occupied .ensures, c .before .before .if6 .left, fails (c .before .before .before .is-met .ensures) (c .before .if7 .taken))
 
 cast-f : tie.Need-cast-f
 cast-f c = omega (arith, within-top _ _ _ (holds (c .before .before .before .before .before .before .before .before .before .is-flag .ensures) (c .before .before .before .before .before .before .before .before .if1 .left)))
@@ -74,7 +74,7 @@ taken-requires c κs = search needs
 
 returns-8 : tie.Need-returns-8
 unfolding eventPoll
-returns-8 c = rw (c .taken .ensures, holds (c .before .before .before .before .before .before .before .before .before .before .is-flag .ensures) (c .before .before .before .before .before .before .before .before .before .if1 .left), ne-eqb _ _ (c .before .before .before .before .before .before .before .before .if2 .left), le-leb _ _ (c .before .before .before .before .before .before .before .if3 .left), ne-eqb _ _ (c .before .before .before .before .before .before .if4 .left), not-false (c .before .before .before .before .before .before .before .before .before .before .before .args .mine) (c .before .before .before .before .before .if5 .left), ← c .before .before .before .before .is-occupied .ensures, c .before .before .before .if6 .left, holds (c .before .before .is-met .ensures) (c .before .if7 .left))
+returns-8 c = rw (c .taken .ensures, holds (c .before .before .before .before .before .before .before .before .before .before .is-flag .ensures) (c .before .before .before .before .before .before .before .before .before .if1 .left), ne-eqb _ _ (c .before .before .before .before .before .before .before .before .if2 .left), le-leb _ _ (c .before .before .before .before .before .before .before .if3 .left), ne-eqb _ _ (c .before .before .before .before .before .before .if4 .left), not-false (c .before .before .before .before .before .before .before .before .before .before .before .args .mine) (c .before .before .before .before .before .if5 .left), ← c .before .before .before .before .is-occupied .ensures, c .before .before .if6 .left, holds (c .before .before .before .is-met .ensures) (c .before .if7 .left))
 
 pub event-poll-spec : {M : Type 1} → statement M
 event-poll-spec =
@@ -92,9 +92,9 @@ event-poll-spec =
     refused-requires-5
     returns-5
     is-occupied-requires
+    is-met-requires
     refused-requires-6
     returns-6
-    is-met-requires
     refused-requires-7
     returns-7
     cast-f

@@ -1,0 +1,40 @@
+-- The tests of a level's, a semaphore's and a flag's numbers, and of what a wait asks for, say what soundness says of them.
+-- Rests on Says.
+use mathlib.Core.Path.{_≡_}
+use mathlib.Core.Bool.{false}
+use mathlib.Core.Logic.{_⊎_}
+use Prim.Native.Nat.{ℕ, _≤_, _<_}
+use lib.Dec.{T}
+use Rattle.model.specs.declared.Task.{Task}
+use Rattle.model.specs.Flag.{areKept, isSingle, isMet}
+use Rattle.model.specs.Task.{aFlag}
+use Rattle.model.specs.Test.{isRateSound, isCountSound, isFlagSound, isUnmet}
+use Rattle.tested.proofs.Says.{Says, says-same, says-false, says-eq, says-le, says-lt, says-not, says-and, says-or, says-implies}
+
+abbrev pub Rate : ℕ → ℕ → Type 0
+Rate v n = (v ≤ 1000) × ((n < v) ⊎ ((v ≡ 0) × (n ≡ 0)))
+
+abbrev pub Counted : ℕ → ℕ → ℕ → Type 0
+Counted n v firstWaiter = (n ≤ v) × ((v ≤ 65535) × ((firstWaiter ≡ 0 → ⊥) → (n ≡ 0) × (v ≡ 0 → ⊥)))
+
+pub says-rate : (v n : ℕ) → Says (isRateSound v n) (Rate v n)
+unfolding isRateSound
+says-rate v n = says-and says-le (says-or says-lt (says-and says-eq says-eq))
+
+pub says-count : (n v firstWaiter : ℕ) → Says (isCountSound n v firstWaiter) (Counted n v firstWaiter)
+unfolding isCountSound
+says-count n v firstWaiter = says-and says-le (says-and says-le (says-implies (says-not says-eq) (says-and says-eq (says-not says-eq))))
+
+abbrev pub Flagged : ℕ → ℕ → ℕ → ℕ → Type 0
+Flagged a b firstWaiter secondWaiter = T (areKept a) × ((a ≡ 0 → (b ≡ 0) × (firstWaiter ≡ 0)) × (T (isSingle a) → secondWaiter ≡ 0))
+
+pub says-flag : (a b firstWaiter secondWaiter : ℕ) → Says (isFlagSound a b firstWaiter secondWaiter) (Flagged a b firstWaiter secondWaiter)
+unfolding isFlagSound
+says-flag a b firstWaiter secondWaiter = says-and (says-same (areKept a)) (says-and (says-implies says-eq (says-and says-eq says-eq)) (says-implies (says-same (isSingle a)) says-eq))
+
+abbrev pub Unmet : Task → ℕ → Type 0
+Unmet x b = x .wait ≡ aFlag → isMet (x .pattern) (x .mode) b ≡ false
+
+pub says-unmet : (x : Task) (b : ℕ) → Says (isUnmet x b) (Unmet x b)
+unfolding isUnmet
+says-unmet x b = says-implies says-eq (says-false (isMet (x .pattern) (x .mode) b))
