@@ -9,7 +9,8 @@ use Rattle.model.specs.declared.Context.{Context}
 use Rattle.model.specs.declared.Context.the-variants.{T, I}
 use Rattle.model.specs.declared.Call.{Call}
 use Rattle.model.specs.declared.Call.the-variants.{TaskCreate, TaskDelete, TaskActivate, TaskIactivate, TaskExit, TaskTerminate, TaskSuspend, TaskResume, TaskSleep, TaskWakeup, TaskIwakeup, TaskReleaseWait, TaskIreleaseWait, TaskChangePriority}
-use Rattle.model.specs.declared.Call.the-variants.{SysTsliceTicks, TickIntProcessing, SemCreate, SemDelete, SemSignal, SemIsignal, SemAcquire, SemPolling, SemIpolling}
+use Rattle.model.specs.declared.Call.the-variants.{SysTsliceTicks, TickIntProcessing, SemCreate, SemDelete, SemSignal, SemIsignal, SemAcquire, SemPolling, SemIpolling, Event}
+use Rattle.model.specs.declared.Event.the-variants.{Create, Delete, Set, Iset, Clear, Iclear, Wait, WaitPolling, Iwait}
 use Rattle.model.specs.declared.Code.the-variants.{WrongParam, Unsound}
 use Rattle.model.specs.Code.{number}
 use Rattle.model.specs.State.{running}
@@ -24,9 +25,23 @@ use Rattle.border.specs.declared.Reply.{Reply}
 unfoldable pub contextOf : ℕ → From
 contextOf n = cond (eqb n 0) (Known T) (cond (eqb n 1) (Known I) Nowhere)
 
--- the services in the order of document 01's calls
-unfoldable pub serviceOf : ℕ → ℕ → ℕ → ℕ → Asked
-serviceOf n a b c =
+-- the services of event flags
+unfoldable pub eventOf : ℕ → ℕ → ℕ → ℕ → ℕ → Asked
+eventOf n a b c d =
+    cond (eqb n 24) (Named (Event a (Create b c)))
+    (cond (eqb n 25) (Named (Event a Delete))
+    (cond (eqb n 26) (Named (Event a (Set b)))
+    (cond (eqb n 27) (Named (Event a (Iset b)))
+    (cond (eqb n 28) (Named (Event a (Clear b)))
+    (cond (eqb n 29) (Named (Event a (Iclear b)))
+    (cond (eqb n 30) (Named (Event a (Wait b c d)))
+    (cond (eqb n 31) (Named (Event a (WaitPolling b c)))
+    (cond (eqb n 32) (Named (Event a (Iwait b c)))
+    Nothing))))))))
+
+-- the services in the order of document 01's calls, and then those of event flags
+unfoldable pub serviceOf : ℕ → ℕ → ℕ → ℕ → ℕ → Asked
+serviceOf n a b c d =
     cond (eqb n 1) (Named (TaskCreate a b c))
     (cond (eqb n 2) (Named (TaskDelete a))
     (cond (eqb n 3) (Named (TaskActivate a))
@@ -50,11 +65,11 @@ serviceOf n a b c =
     (cond (eqb n 21) (Named (SemAcquire a b))
     (cond (eqb n 22) (Named (SemPolling a))
     (cond (eqb n 23) (Named (SemIpolling a))
-    Nothing))))))))))))))))))))))
+    (eventOf n a b c d)))))))))))))))))))))))
 
 -- neither context nor service may be unknown; UNSOUND comes first, as everywhere
 unfoldable pub unknown : State → Answer
-unknown s = cond (isSound s) (record { code = WrongParam; running = running s; state = s }) (record { code = Unsound; running = 0; state = s })
+unknown s = cond (isSound s) (record { code = WrongParam; running = running s; value = 0; state = s }) (record { code = Unsound; running = 0; value = 0; state = s })
 
 unfoldable pub answered : State → From → Asked → Answer
 answered s Nowhere q = unknown s
@@ -63,7 +78,7 @@ answered s (Known c) (Named a) = Calls.call s c a
 
 -- in the paper's numbers
 abbrev pub replyOf : Answer → Reply
-replyOf r = record { code = number (r .code); running = r .running; state = r .state }
+replyOf r = record { code = number (r .code); running = r .running; value = r .value; state = r .state }
 
-unfoldable pub reply : State → ℕ → ℕ → ℕ → ℕ → ℕ → Reply
-reply s context service a b c = replyOf (answered s (contextOf context) (serviceOf service a b c))
+unfoldable pub reply : State → ℕ → ℕ → ℕ → ℕ → ℕ → ℕ → Reply
+reply s context service a b c d = replyOf (answered s (contextOf context) (serviceOf service a b c d))

@@ -2,18 +2,20 @@
 // A number that names nothing is WRONG_PARAM; a number that the service does not take is not looked at. Rests on the kernel.
 ghost use mathlib.Core.Path.{_≡_};
 ghost use Rattle.model.specs.Code.{number};
-ghost use Rattle.border.specs.Border.{contextOf, serviceOf, answered, unknown, replyOf, reply};
+ghost use Rattle.border.specs.Border.{contextOf, eventOf, serviceOf, answered, unknown, replyOf, reply};
 use model::Answer;
 use model::Call;
 use model::Code;
 use model::Context;
+use model::Event;
 use model::State;
 
-// A call's answer in plain numbers: the paper's code, the task that then runs, the next state.
+// A call's answer in plain numbers: the paper's code, the task that then runs, the bits that a flag wait or poll got at once, the next state.
 #[repr(C)]
 pub struct Reply {
     pub code: i32,
     pub running: u32,
+    pub value: u32,
     pub state: State,
 }
 
@@ -37,8 +39,66 @@ pub fn context_of(n: u32) -> From
     }
 }
 
-pub fn service_of(n: u32, a: u32, b: u32, c: u32) -> Asked
-    ensures { λ r. ⌜ r ≡ serviceOf n a b c ⌝ }
+// The services of event flags.
+fn event_of(n: u32, a: u32, b: u32, c: u32, d: u32) -> Asked
+    ensures { λ r. ⌜ r ≡ eventOf n a b c d ⌝ }
+{
+    match n {
+        24 => Asked::Named(Call::Event {
+            flag: a,
+            service: Event::Create {
+                attributes: b,
+                bits: c,
+            },
+        }),
+        25 => Asked::Named(Call::Event {
+            flag: a,
+            service: Event::Delete,
+        }),
+        26 => Asked::Named(Call::Event {
+            flag: a,
+            service: Event::Set { bits: b },
+        }),
+        27 => Asked::Named(Call::Event {
+            flag: a,
+            service: Event::Iset { bits: b },
+        }),
+        28 => Asked::Named(Call::Event {
+            flag: a,
+            service: Event::Clear { bits: b },
+        }),
+        29 => Asked::Named(Call::Event {
+            flag: a,
+            service: Event::Iclear { bits: b },
+        }),
+        30 => Asked::Named(Call::Event {
+            flag: a,
+            service: Event::Wait {
+                pattern: b,
+                mode: c,
+                timeout: d,
+            },
+        }),
+        31 => Asked::Named(Call::Event {
+            flag: a,
+            service: Event::WaitPolling {
+                pattern: b,
+                mode: c,
+            },
+        }),
+        32 => Asked::Named(Call::Event {
+            flag: a,
+            service: Event::Iwait {
+                pattern: b,
+                mode: c,
+            },
+        }),
+        _ => Asked::Nothing,
+    }
+}
+
+pub fn service_of(n: u32, a: u32, b: u32, c: u32, d: u32) -> Asked
+    ensures { λ r. ⌜ r ≡ serviceOf n a b c d ⌝ }
 {
     match n {
         1 => Asked::Named(Call::TaskCreate {
@@ -78,7 +138,7 @@ pub fn service_of(n: u32, a: u32, b: u32, c: u32) -> Asked
         }),
         22 => Asked::Named(Call::SemPolling { semaphore: a }),
         23 => Asked::Named(Call::SemIpolling { semaphore: a }),
-        _ => Asked::Nothing,
+        _ => event_of(n, a, b, c, d),
     }
 }
 
@@ -93,6 +153,7 @@ pub fn code_number(code: Code) -> i32
         Code::WState => -3,
         Code::Timeout => -4,
         Code::WrongParam => -5,
+        Code::IlUse => -8,
         Code::NoExs => -9,
         Code::Dlt => -10,
         Code::Released => -11,
@@ -108,6 +169,7 @@ fn reply_of(r: Answer) -> Reply
     Reply {
         code: code_number(code),
         running: r.running as u32,
+        value: r.value,
         state: s,
     }
 }
@@ -122,12 +184,14 @@ fn unknown(s: State) -> Answer
         return Answer {
             code: Code::WrongParam,
             running: rows::best(&levels),
+            value: 0,
             state: s,
         };
     }
     Answer {
         code: Code::Unsound,
         running: 0,
+        value: 0,
         state: s,
     }
 }
@@ -144,8 +208,8 @@ fn answered(s: State, from: From, asked: Asked) -> Answer
     kernel::call(s, context, call)
 }
 
-pub fn call_by_number(s: State, context: u32, service: u32, a: u32, b: u32, c: u32) -> Reply
-    ensures { λ r. ⌜ r ≡ reply s context service a b c ⌝ }
+pub fn call_by_number(s: State, context: u32, service: u32, a: u32, b: u32, c: u32, d: u32) -> Reply
+    ensures { λ r. ⌜ r ≡ reply s context service a b c d ⌝ }
 {
-    reply_of(answered(s, context_of(context), service_of(service, a, b, c)))
+    reply_of(answered(s, context_of(context), service_of(service, a, b, c, d)))
 }

@@ -17,10 +17,11 @@ pub extern "C" fn gritgarland_call(
     a: u32,
     b: u32,
     c: u32,
+    d: u32,
 ) -> Reply
-    ensures { λ r. ⌜ r ≡ reply s context service a b c ⌝ }
+    ensures { λ r. ⌜ r ≡ reply s context service a b c d ⌝ }
 {
-    border::call_by_number(s, context, service, a, b, c)
+    border::call_by_number(s, context, service, a, b, c, d)
 }
 
 // Does a state keep every rule of a sound state?

@@ -36,6 +36,9 @@ enum-told-10 c = search needs
 enum-told-11 : tie.Need-enum-told-11
 enum-told-11 c = search needs
 
+enum-told-12 : tie.Need-enum-told-12
+enum-told-12 c = search needs
+
 returns : tie.Need-returns
 returns c = rw (c .enum-told .given .1)
 
@@ -69,6 +72,9 @@ returns-10 c = rw (c .enum-told10 .given .1)
 returns-11 : tie.Need-returns-11
 returns-11 c = rw (c .enum-told11 .given .1)
 
+returns-12 : tie.Need-returns-12
+returns-12 c = rw (c .enum-told12 .given .1)
+
 pub code-number-spec : {M : Type 1} → statement M
 code-number-spec =
     tie.close
@@ -84,6 +90,7 @@ code-number-spec =
     enum-told-9
     enum-told-10
     enum-told-11
+    enum-told-12
     returns
     returns-2
     returns-3
@@ -94,4 +101,5 @@ code-number-spec =
     returns-8
     returns-9
     returns-10
-    returns-11)
+    returns-11
+    returns-12)
