@@ -64,7 +64,7 @@ both() {
     ' "examples/$1.csv"
 }
 
-for name in worked hold-until-key round-robin mistakes/refused-calls; do
+for name in worked hold-until-key round-robin mistakes/refused-calls mistakes/refused-flags; do
     both "$name" table >"$work/rows"
     awk -v file="\`examples/$name.csv\`" '
         /^#/ { on = index($0, file) }
@@ -87,7 +87,7 @@ says "line 4 can't be read: T,tn_sem_acquire,01,5,"
 warns ""
 plays examples/mistakes/wrong-header.csv 1
 says "line 1 can't be read: ctx;service;a;b;c"
-says "line 1 must be the header ctx,service,a,b,c"
+says "line 1 must be the header ctx,service,a,b,c or ctx,service,a,b,c,d"
 plays examples/mistakes/empty-line.csv 1
 says "line 3 can't be read, it is empty"
 plays examples/mistakes/lone-cr.csv 1
@@ -96,6 +96,11 @@ says "not shown in this quote: 1 byte that can't be printed"
 plays examples/mistakes/refused-calls.csv 0
 says "14 of 19 calls refused by the kernel:"
 says "    3 with -5 WRONG_PARAM: a number out of range, or an existing object created"
+plays examples/mistakes/refused-flags.csv 0
+says "8 of 13 calls refused by the kernel:"
+says "    1 with -8 ILUSE: a second wait or poll on a SINGLE flag that has its waiter"
+plays examples/mistakes/flag-wait-in-five-fields.csv 1
+says "line 4 can't be read: T,tn_event_wait,1,1,0"
 plays examples/worked.csv 0
 warns ""
 plays examples/round-robin.csv 0
@@ -105,6 +110,14 @@ warns "8 "
 
 # ---- files that nobody means to write
 header=ctx,service,a,b,c
+printf '%s\n' $header,d T,tn_event_create,1,0,65535, T,tn_task_create,1,5,1, T,tn_event_wait,1,65535,0,1 T,tn_event_wait,1,65536,0,65535 \
+    T,tn_sem_acquire,1,65535,, T,tn_task_sleep,65535,,, >"$work/six"
+plays "$work/six" 0
+warns "5 6 7 "
+
+printf '%s\n' $header,d >"$work/alone6"
+plays "$work/alone6" 0
+[ "$(wc -c <"$work/answer")" -eq 16 ] || differs "a header of six fields alone does not give 16 bytes"
 printf '%s\r\n' $header T,tn_sem_create,1,0,65535 T,tn_task_create,1,5,1 T,tn_sem_acquire,1,65535, I,tn_task_sleep,65535,, \
     T,tn_sem_acquire,65535,1, T,tn_task_sleep,165535,, >"$work/crlf"
 printf 'T,tn_task_sleep,65535,,' >>"$work/crlf"

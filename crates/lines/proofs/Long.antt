@@ -1,6 +1,6 @@
--- A line that reads has at least 17 bytes: context and comma, the shortest name with its comma, two commas more. The header has 17.
--- It rests on the table of services.
-use Prim.Native.Nat.{ℕ, _+_, _≤_}
+-- A line that reads has at least 17 bytes: context and comma, the shortest name with its comma, two commas more; a wide one has a
+-- third comma, and 18. The header has 17, or 19. It rests on the table of services.
+use Prim.Native.Nat.{ℕ, _+_, _*_, _≤_}
 use mathlib.Core.Bool.{Bool, true, false, cond}
 use mathlib.Core.List.{List, [], _∷_}
 use native.Mathlib.Omega.{arith}
@@ -15,38 +15,48 @@ use Rattle.lines.specs.declared.names.Name.{Name}
 use Rattle.lines.specs.declared.names.Name.the-variants.{Known, Unknown}
 use Rattle.lines.specs.declared.fields.End.{End}
 use Rattle.lines.specs.declared.fields.End.the-variants.{Closes, NoEnd}
+use Rattle.lines.specs.declared.fields.Tail.{Tail}
+use Rattle.lines.specs.declared.fields.Tail.the-variants.{Two, NoTail}
 use Rattle.lines.specs.declared.fields.Fields.{Fields}
-use Rattle.lines.specs.declared.fields.Fields.the-variants.{Three, NoFields}
+use Rattle.lines.specs.declared.fields.Fields.the-variants.{Four, NoFields}
 use Rattle.lines.specs.declared.line.Letter.{Letter}
 use Rattle.lines.specs.declared.line.Letter.the-variants.{Is, NoLetter}
 use Rattle.lines.specs.declared.line.Line.{Line}
 use Rattle.lines.specs.declared.line.Line.the-variants.{Reads, Unreadable}
 use Rattle.lines.specs.declared.line.Header.{Header}
 use Rattle.lines.specs.declared.line.Header.the-variants.{Ends, NoHeader}
-use Rattle.lines.specs.Services.{Service, tasks, system, semaphores, services, label, callOf, nameIn, nameOf}
-use Rattle.lines.specs.Fields.{fieldOf, numberThen, commaField, endOf, lastField, fieldThen, fieldsOf}
-use Rattle.lines.specs.Lines.{letterOf, letterThen, nameThen, fieldsThen, lineOf, headerThen, headerOf}
+use Rattle.lines.specs.Services.{Service, tasks, system, semaphores, events, services, label, callOf, nameIn, nameOf}
+use Rattle.lines.specs.Fields.{fieldOf, numberThen, commaField, endOf, lastField, tailField, narrowTail, wideTail, tailOf, fieldThen, tailThen, fieldsOf}
+use Rattle.lines.specs.Lines.{letterOf, letterThen, nameThen, fieldsThen, lineOf, headerThen, headed, headerOf}
 use Rattle.lines.proofs.Table.{long, both-left, both-right}
 
 -- each answer's length is at least that
-abbrev NameHas : Name → Type 0
+abbrev pub NameHas : Name → Type 0
 NameHas (Known k takes i) = 13 ≤ i
 NameHas Unknown = Unit
 
-abbrev NumberHas : Number → Type 0
+abbrev pub NumberHas : Number → Type 0
 NumberHas (Digits v n) = 1 ≤ n
 NumberHas NoNumber = Unit
 
-abbrev FieldsHas : Fields → Type 0
-FieldsHas (Three a b c n) = 2 ≤ n
-FieldsHas NoFields = Unit
+-- the comma that only a wide line has
+abbrev pub extra : Bool → ℕ
+extra wide = cond wide 1 0
 
-abbrev pub LineHas : Line → Type 0
-LineHas (Reads x c n) = 17 ≤ n
-LineHas Unreadable = Unit
+abbrev TailHas : Bool → Tail → Type 0
+TailHas wide (Two c d n) = extra wide ≤ n
+TailHas wide NoTail = Unit
+
+abbrev FieldsHas : Bool → Fields → Type 0
+FieldsHas wide (Four a b c d n) = 2 + extra wide ≤ n
+FieldsHas wide NoFields = Unit
+
+abbrev pub LineHas : Bool → Line → Type 0
+LineHas wide (Reads x c n) = 17 + extra wide ≤ n
+LineHas wide Unreadable = Unit
 
 abbrev pub HeaderHas : Header → Type 0
-HeaderHas (Ends n) = 17 ≤ n
+HeaderHas (Ends wide n) = 17 + 2 * extra wide ≤ n
 HeaderHas NoHeader = Unit
 
 name-among : (xs : List Service) → T (long xs) → (k : ℕ) (s : List ℕ) → NameHas (nameIn xs k s)
@@ -56,11 +66,11 @@ name-among (x ∷ xs) t k s =
     cond-by NameHas (begins s (label x)) (Known k (x .takes) (length (label x))) (nameIn xs (k + 1) s)
     (λ e. leb→le 13 (length (label x)) (both-left (leb 13 (length (label x))) (long xs) t)) (name-among xs (both-right (leb 13 (length (label x))) (long xs) t) (k + 1) s)
 
-name-has : (s : List ℕ) → NameHas (nameOf s)
-unfolding nameOf services tasks system semaphores long label
+pub name-has : (s : List ℕ) → NameHas (nameOf s)
+unfolding nameOf services tasks system semaphores events long label
 name-has s = name-among services tt 0 s
 
-comma-has : (used : Bool) (s : List ℕ) → NumberHas (commaField used s)
+pub comma-has : (used : Bool) (s : List ℕ) → NumberHas (commaField used s)
 unfolding commaField
 comma-has used s = go (fieldOf used s)
   where
@@ -68,44 +78,68 @@ comma-has used s = go (fieldOf used s)
     go (Digits v n) = cond-by NumberHas (eqb (getD s n 0) 44) (Digits v (n + 1)) NoNumber (λ e. omega arith) tt
     go NoNumber = tt
 
-fields-has : (takes : ℕ) (s : List ℕ) → FieldsHas (fieldsOf takes s)
-unfolding fieldsOf
-fields-has takes s = first (commaField (ltb 0 takes) s) (comma-has (ltb 0 takes) s)
+tail-has : (wide : Bool) (takes : ℕ) (s : List ℕ) → TailHas wide (tailOf wide takes s)
+unfolding tailOf wideTail narrowTail
+tail-has true takes s = first (commaField (ltb 2 takes) s) (comma-has (ltb 2 takes) s)
   where
-    third : (a b i : ℕ) → 2 ≤ i → (t : Number) → FieldsHas (fieldThen t (λ c k. Three a b c (i + k)))
-    third a b i h (Digits c k) = omega arith
-    third a b i h NoNumber = tt
+    second : (c i : ℕ) → 1 ≤ i → (t : Number) → TailHas true (tailField t (λ d j. Two c d (i + j)))
+    second c i h (Digits d j) = omega arith
+    second c i h NoNumber = tt
 
-    second : (a i : ℕ) → 1 ≤ i → (t : Number) → NumberHas t → FieldsHas (fieldThen t (λ b j. fieldThen (lastField (ltb 2 takes) (drop (i + j) s)) (λ c k. Three a b c (i + j + k))))
-    second a i h (Digits b j) g = third a b (i + j) (omega arith) (lastField (ltb 2 takes) (drop (i + j) s))
+    first : (t : Number) → NumberHas t → TailHas true (tailField t (λ c i. tailField (lastField (ltb 3 takes) (drop i s)) (λ d j. Two c d (i + j))))
+    first (Digits c i) g = second c i g (lastField (ltb 3 takes) (drop i s))
+    first NoNumber g = tt
+tail-has false takes s = go (ltb 3 takes) (lastField (ltb 2 takes) s)
+  where
+    go : (b : Bool) (t : Number) → TailHas false (cond b NoTail (tailField t (λ c i. Two c 0 i)))
+    go true t = tt
+    go false (Digits c i) = omega arith
+    go false NoNumber = tt
+
+fields-has : (wide : Bool) (takes : ℕ) (s : List ℕ) → FieldsHas wide (fieldsOf wide takes s)
+unfolding fieldsOf
+fields-has wide takes s = first (commaField (ltb 0 takes) s) (comma-has (ltb 0 takes) s)
+  where
+    third : (a b i : ℕ) → 2 ≤ i → (t : Tail) → TailHas wide t → FieldsHas wide (tailThen t (λ c d k. Four a b c d (i + k)))
+    third a b i h (Two c d k) g = omega arith
+    third a b i h NoTail g = tt
+
+    second : (a i : ℕ) → 1 ≤ i → (t : Number) → NumberHas t → FieldsHas wide (fieldThen t (λ b j. tailThen (tailOf wide takes (drop (i + j) s)) (λ c d k. Four a b c d (i + j + k))))
+    second a i h (Digits b j) g = third a b (i + j) (omega arith) (tailOf wide takes (drop (i + j) s)) (tail-has wide takes (drop (i + j) s))
     second a i h NoNumber g = tt
 
     first : (t : Number) → NumberHas t
-        → FieldsHas (fieldThen t (λ a i. fieldThen (commaField (ltb 1 takes) (drop i s)) (λ b j. fieldThen (lastField (ltb 2 takes) (drop (i + j) s)) (λ c k. Three a b c (i + j + k)))))
+        → FieldsHas wide (fieldThen t (λ a i. fieldThen (commaField (ltb 1 takes) (drop i s)) (λ b j. tailThen (tailOf wide takes (drop (i + j) s)) (λ c d k. Four a b c d (i + j + k)))))
     first (Digits a i) g = second a i g (commaField (ltb 1 takes) (drop i s)) (comma-has (ltb 1 takes) (drop i s))
     first NoNumber g = tt
 
-pub line-has : (s : List ℕ) → LineHas (lineOf s)
+pub line-has : (wide : Bool) (s : List ℕ) → LineHas wide (lineOf wide s)
 unfolding lineOf
-line-has s = first (letterOf s)
+line-has wide s = first (letterOf s)
   where
-    third : (x : Context) (k i : ℕ) → 15 ≤ i → (t : Fields) → FieldsHas t → LineHas (fieldsThen t (λ a b c m. Reads x (callOf k a b c) (i + m)))
-    third x k i h (Three a b c m) g = omega arith
+    third : (x : Context) (k i : ℕ) → 15 ≤ i → (t : Fields) → FieldsHas wide t → LineHas wide (fieldsThen t (λ a b c d m. Reads x (callOf k a b c d) (i + m)))
+    third x k i h (Four a b c d m) g = omega arith
     third x k i h NoFields g = tt
 
-    second : (x : Context) (t : Name) → NameHas t → LineHas (nameThen t (λ k takes n. fieldsThen (fieldsOf takes (drop (2 + n) s)) (λ a b c m. Reads x (callOf k a b c) (2 + n + m))))
-    second x (Known k takes n) g = third x k (2 + n) (omega arith) (fieldsOf takes (drop (2 + n) s)) (fields-has takes (drop (2 + n) s))
+    second : (x : Context) (t : Name) → NameHas t → LineHas wide (nameThen t (λ k takes n. fieldsThen (fieldsOf wide takes (drop (2 + n) s)) (λ a b c d m. Reads x (callOf k a b c d) (2 + n + m))))
+    second x (Known k takes n) g = third x k (2 + n) (omega arith) (fieldsOf wide takes (drop (2 + n) s)) (fields-has wide takes (drop (2 + n) s))
     second x Unknown g = tt
 
-    first : (t : Letter) → LineHas (letterThen t (λ x. nameThen (nameOf (drop 2 s)) (λ k takes n. fieldsThen (fieldsOf takes (drop (2 + n) s)) (λ a b c m. Reads x (callOf k a b c) (2 + n + m)))))
+    first : (t : Letter) → LineHas wide (letterThen t (λ x. nameThen (nameOf (drop 2 s)) (λ k takes n. fieldsThen (fieldsOf wide takes (drop (2 + n) s)) (λ a b c d m. Reads x (callOf k a b c d) (2 + n + m)))))
     first (Is x) = second x (nameOf (drop 2 s)) (name-has (drop 2 s))
     first NoLetter = tt
+
+headed-has : (t : List ℕ) (wide : Bool) (s : List ℕ) → 17 + 2 * extra wide ≤ length t → HeaderHas (headed t wide s)
+unfolding headed
+headed-has t wide s h =
+    cond-by HeaderHas (begins s t) (headerThen (endOf (drop (length t) s)) (λ k. Ends wide (length t + k))) NoHeader (λ e. go (endOf (drop (length t) s))) tt
+  where
+    go : (x : End) → HeaderHas (headerThen x (λ k. Ends wide (length t + k)))
+    go (Closes k) = omega (arith, h)
+    go NoEnd = tt
 
 pub header-has : (s : List ℕ) → HeaderHas (headerOf s)
 unfolding headerOf
 header-has s =
-    cond-by HeaderHas (begins s (bytes "ctx,service,a,b,c")) (headerThen (endOf (drop 17 s)) (λ k. Ends (17 + k))) NoHeader (λ e. go (endOf (drop 17 s))) tt
-  where
-    go : (t : End) → HeaderHas (headerThen t (λ k. Ends (17 + k)))
-    go (Closes k) = omega arith
-    go NoEnd = tt
+    cond-by HeaderHas (begins s (bytes "ctx,service,a,b,c,d")) (headed (bytes "ctx,service,a,b,c,d") true s) (headed (bytes "ctx,service,a,b,c") false s)
+    (λ _. headed-has (bytes "ctx,service,a,b,c,d") true s (omega arith)) (headed-has (bytes "ctx,service,a,b,c") false s (omega arith))

@@ -12,7 +12,7 @@ use Rattle.text.specs.Bytes.{begins}
 use Rattle.text.proofs.Begins.{begins-at}
 use Rattle.lines.specs.declared.names.Name.{Name}
 use Rattle.lines.specs.declared.names.Name.the-variants.{Known, Unknown}
-use Rattle.lines.specs.Services.{Service, tasks, system, semaphores, services, label, nameIn, nameOf}
+use Rattle.lines.specs.Services.{Service, tasks, system, semaphores, events, services, label, nameIn, nameOf}
 
 -- what can be told from the first 13 bytes: of bytes that begin with a text, what the text tells
 abbrev Early : (List ℕ → ℕ) → Type 0
@@ -65,7 +65,7 @@ by-key f early (x ∷ xs) t k s =
 at-key : {r : Name} (f : List ℕ → ℕ) → Early f → (xs : List Service) → T (long xs) → (k : ℕ) (s : List ℕ) {m : ℕ} → m ≡ f s → r ≡ keyed f xs k m s → r ≡ nameIn xs k s
 at-key f early xs t k s e p = p ∙ ap (λ (h : ℕ). keyed f xs k h s) e ∙ by-key f early xs t k s
 
--- ---- the keys that the reader goes by: a family's by one byte, a task's service by two, a semaphore's by one
+-- ---- the keys that the reader goes by: a family's by one byte, a task's or a flag's service by two, a semaphore's by one
 
 abbrev pub familyKey : List ℕ → ℕ
 familyKey s = getD s 4 0
@@ -76,20 +76,27 @@ taskKey s = getD s 8 0 + getD s 11 0
 abbrev pub semaphoreKey : List ℕ → ℕ
 semaphoreKey s = getD s 8 0
 
-early-task : Early taskKey
-early-task s t e g = rw (early-byte 8 (omega arith) s t e g, early-byte 11 (omega arith) s t e g)
+abbrev pub eventKey : List ℕ → ℕ
+eventKey s = getD s 10 0 + getD s 12 0
+
+early-bytes : (i j : ℕ) → i < 13 → j < 13 → Early (λ s. getD s i 0 + getD s j 0)
+early-bytes i j h k s t e g = rw (early-byte i h s t e g, early-byte j k s t e g)
 
 pub at-family : {r : Name} (s : List ℕ) {a m : ℕ} → a ≡ getD s 4 0 → a ≡ m → r ≡ keyed familyKey services 0 m s → r ≡ nameOf s
-unfolding nameOf services tasks system semaphores long label
+unfolding nameOf services tasks system semaphores events long label
 at-family s p e q = at-key familyKey (early-byte 4 (omega arith)) services tt 0 s (sym e ∙ p) q
 
 pub at-task : {r : Name} (s : List ℕ) {a b m : ℕ} → a ≡ getD s 8 0 → b ≡ getD s 11 0 → a + b ≡ m → r ≡ keyed taskKey tasks 0 m s → r ≡ nameIn tasks 0 s
 unfolding tasks long label
-at-task s p o e q = at-key taskKey early-task tasks tt 0 s (sym e ∙ (cc)) q
+at-task s p o e q = at-key taskKey (early-bytes 8 11 (omega arith) (omega arith)) tasks tt 0 s (sym e ∙ (cc)) q
 
 pub at-semaphore : {r : Name} (s : List ℕ) {a m : ℕ} → a ≡ getD s 8 0 → a ≡ m → r ≡ keyed semaphoreKey semaphores 16 m s → r ≡ nameIn semaphores 16 s
 unfolding semaphores long label
 at-semaphore s p e q = at-key semaphoreKey (early-byte 8 (omega arith)) semaphores tt 16 s (sym e ∙ p) q
+
+pub at-event : {r : Name} (s : List ℕ) {a b m : ℕ} → a ≡ getD s 10 0 → b ≡ getD s 12 0 → a + b ≡ m → r ≡ keyed eventKey events 23 m s → r ≡ nameIn events 23 s
+unfolding events long label
+at-event s p o e q = at-key eventKey (early-bytes 10 12 (omega arith) (omega arith)) events tt 23 s (sym e ∙ (cc)) q
 
 -- x is none of the keys, as a `match` says it in its last arm
 abbrev pub Rest : List ℕ → ℕ → Type 0 → Type 0
@@ -126,7 +133,7 @@ no-key f ks (x ∷ xs) t k h s r =
     rw (ne-eqb (f (label x)) h (λ q. n (sym q))) (no-key f ks xs (both-right (has ks (f (label x))) (covered f ks xs) t) (k + 1) h s r)
 
 abbrev pub familyKeys : List ℕ
-familyKeys = 97 ∷ 121 ∷ 105 ∷ 101 ∷ []
+familyKeys = 97 ∷ 121 ∷ 105 ∷ 101 ∷ 118 ∷ []
 
 abbrev pub taskKeys : List ℕ
 taskKeys = 196 ∷ 201 ∷ 202 ∷ 221 ∷ 217 ∷ 225 ∷ 227 ∷ 231 ∷ 216 ∷ 220 ∷ 212 ∷ 215 ∷ 213 ∷ 209 ∷ []
@@ -134,8 +141,11 @@ taskKeys = 196 ∷ 201 ∷ 202 ∷ 221 ∷ 217 ∷ 225 ∷ 227 ∷ 231 ∷ 216 �
 abbrev pub semaphoreKeys : List ℕ
 semaphoreKeys = 114 ∷ 101 ∷ 105 ∷ 115 ∷ 99 ∷ 111 ∷ 112 ∷ []
 
+abbrev pub eventKeys : List ℕ
+eventKeys = 211 ∷ 202 ∷ 145 ∷ 231 ∷ 205 ∷ 200 ∷ 213 ∷ 224 ∷ []
+
 pub no-family : (s : List ℕ) (h : ℕ) → h ≡ getD s 4 0 → Rest familyKeys h Unit → Unknown ≡ nameOf s
-unfolding services tasks system semaphores label has covered
+unfolding services tasks system semaphores events label has covered
 no-family s h p r = at-family s p refl (no-key familyKey familyKeys services tt 0 h s r)
 
 pub no-task : (s : List ℕ) (a b : ℕ) → a ≡ getD s 8 0 → b ≡ getD s 11 0 → Rest taskKeys (a + b) Unit → Unknown ≡ nameIn tasks 0 s
@@ -145,6 +155,10 @@ no-task s a b p o r = at-task s p o refl (no-key taskKey taskKeys tasks tt 0 (a 
 pub no-semaphore : (s : List ℕ) (h : ℕ) → h ≡ getD s 8 0 → Rest semaphoreKeys h Unit → Unknown ≡ nameIn semaphores 16 s
 unfolding semaphores label has covered
 no-semaphore s h p r = at-semaphore s p refl (no-key semaphoreKey semaphoreKeys semaphores tt 16 h s r)
+
+pub no-event : (s : List ℕ) (a b : ℕ) → a ≡ getD s 10 0 → b ≡ getD s 12 0 → Rest eventKeys (a + b) Unit → Unknown ≡ nameIn events 23 s
+unfolding events label has covered
+no-event s a b p o r = at-event s p o refl (no-key eventKey eventKeys events tt 23 (a + b) s r)
 
 -- a number that is none of the n from i on, and not below i, is past them
 abbrev upFrom : ℕ → ℕ → List ℕ
@@ -157,5 +171,5 @@ above (suc n) i x N r h =
     let m = out (upFrom (suc i) n) x (N × (x ≡ i → ⊥)) r .1 in
     omega (arith, above n (suc i) x (N × (x ≡ i → ⊥)) r (omega arith))
 
-pub past-table : (x : ℕ) → Rest (upFrom 0 23) x Unit → 23 ≤ x
-past-table x r = above 23 0 x Unit r (omega arith)
+pub past-table : (x : ℕ) → Rest (upFrom 0 32) x Unit → 32 ≤ x
+past-table x r = above 32 0 x Unit r (omega arith)

@@ -2,26 +2,28 @@
 -- antt computes the definitions on every row.
 use Prim.Native.String.{String}
 use mathlib.Core.Path.{_≡_, refl}
+use mathlib.Core.Bool.{Bool, true, false}
 use mathlib.Core.List.{List, [], _∷_}
 use Rattle.text.specs.Bytes.{bytes, begins}
 use Rattle.text.specs.Number.{isDigit, digits, valueAfter, ended, numberOf}
 use Rattle.model.specs.declared.Context.the-variants.{T, I}
-use Rattle.model.specs.declared.Call.the-variants.{TaskCreate, TaskExit, TaskSleep, TickIntProcessing, SemCreate, SemSignal, SemIsignal, SemAcquire, SemPolling}
+use Rattle.model.specs.declared.Call.the-variants.{TaskCreate, TaskExit, TaskSleep, TickIntProcessing, SemCreate, SemSignal, SemIsignal, SemAcquire, SemPolling, Event}
+use Rattle.model.specs.declared.Event.the-variants.{Create, Wait, WaitPolling, Iwait}
 use Rattle.lines.specs.declared.line.Line.{Line}
 use Rattle.lines.specs.declared.line.Line.the-variants.{Reads, Unreadable}
 use Rattle.lines.specs.declared.line.Header.{Header}
 use Rattle.lines.specs.declared.line.Header.the-variants.{Ends, NoHeader}
-use Rattle.lines.specs.Services.{tasks, system, semaphores, services, service, callOf, label, nameIn, nameOf}
-use Rattle.lines.specs.Fields.{fieldOf, commaField, endOf, lastField, fieldsOf}
-use Rattle.lines.specs.Lines.{letterOf, lineOf, headerOf}
+use Rattle.lines.specs.Services.{tasks, system, semaphores, events, services, service, callOf, label, nameIn, nameOf}
+use Rattle.lines.specs.Fields.{fieldOf, commaField, endOf, lastField, narrowTail, wideTail, tailOf, fieldsOf}
+use Rattle.lines.specs.Lines.{letterOf, lineOf, headed, headerOf}
 
 infix 20 _reads_
 pub data Row : Type 0 where
   _reads_ : String → Line → Row
 
-abbrev pub given : List Row → List Line
-given [] = []
-given ((t reads l) ∷ rows) = lineOf (bytes t) ∷ given rows
+abbrev pub given : Bool → List Row → List Line
+given wide [] = []
+given wide ((t reads l) ∷ rows) = lineOf wide (bytes t) ∷ given wide rows
 
 abbrev pub wanted : List Row → List Line
 wanted [] = []
@@ -67,23 +69,53 @@ rows =
     ∷ ("I,tn_task_exit,,,\n" reads Reads I TaskExit 18)
     ∷ ("T,tn_task_isuspend,1,,\n" reads Unreadable)
     ∷ ("T,tn_task_exi,,,\n" reads Unreadable)
+    -- the flags: all but the wait, whose timeout has no field
+    ∷ ("T,tn_event_create,8,3,0\n" reads Reads T (Event 8 (Create 3 0)) 24)
+    ∷ ("T,tn_event_wait_polling,1,1,0\n" reads Reads T (Event 1 (WaitPolling 1 0)) 30)
+    ∷ ("I,tn_event_iwait,1,1,0\n" reads Reads I (Event 1 (Iwait 1 0)) 23)
+    ∷ ("T,tn_event_wait,1,1,0\n" reads Unreadable)
+    ∷ ("T,tn_event_wait,1,1,0,4294967295\n" reads Unreadable)
+    ∷ ("T,tn_event_wate,1,1,0\n" reads Unreadable)
+    ∷ ("T,tn_event_wait_pollinh,1,1,0\n" reads Unreadable)
     ∷ []
 
-pub lines-read : given rows ≡ wanted rows
-unfolding rows lineOf letterOf nameOf nameIn label services tasks system semaphores service callOf fieldsOf fieldOf commaField lastField endOf numberOf ended valueAfter digits isDigit begins
+-- under the header of six fields
+pub wideRows : List Row
+wideRows =
+    ("T,tn_event_wait,1,1,0,4294967295\n" reads Reads T (Event 1 (Wait 1 0 4294967295)) 33)
+    ∷ ("T,tn_task_exit,,,,\n" reads Reads T TaskExit 19)
+    ∷ ("T,tn_sem_acquire,1,2,,\r\n" reads Reads T (SemAcquire 1 2) 24)
+    ∷ ("T,tn_event_wait_polling,1,1,0," reads Reads T (Event 1 (WaitPolling 1 0)) 30)
+    ∷ ("T,tn_task_exit,,,\n" reads Unreadable)
+    ∷ ("T,tn_event_wait,1,1,0\n" reads Unreadable)
+    ∷ ("T,tn_event_wait,1,1,0,\n" reads Unreadable)
+    ∷ ("T,tn_event_wait,1,1,0,4294967296\n" reads Unreadable)
+    ∷ ("T,tn_event_wait,1,1,0,5,\n" reads Unreadable)
+    ∷ ("T,tn_event_wait_polling,1,1,0,0\n" reads Unreadable)
+    ∷ []
+
+pub lines-read : given false rows ≡ wanted rows
+unfolding rows lineOf letterOf nameOf nameIn label services tasks system semaphores events service callOf fieldsOf tailOf narrowTail fieldOf commaField lastField endOf numberOf ended valueAfter digits isDigit begins
 lines-read = refl
+
+pub wide-lines-read : given true wideRows ≡ wanted wideRows
+unfolding wideRows lineOf letterOf nameOf nameIn label services tasks system semaphores events service callOf fieldsOf tailOf wideTail fieldOf commaField lastField endOf numberOf ended valueAfter digits isDigit begins
+wide-lines-read = refl
 
 abbrev pub headers : List Header
 headers =
     headerOf (bytes "ctx,service,a,b,c\n")
     ∷ headerOf (bytes "ctx,service,a,b,c\r\nT")
     ∷ headerOf (bytes "ctx,service,a,b,c")
+    ∷ headerOf (bytes "ctx,service,a,b,c,d\n")
+    ∷ headerOf (bytes "ctx,service,a,b,c,d")
     ∷ headerOf (bytes "ctx,service,a,b,c,\n")
+    ∷ headerOf (bytes "ctx,service,a,b,c,d,\n")
     ∷ headerOf (bytes "ctx,service,a,b,c\r")
     ∷ headerOf (bytes "\n")
     ∷ headerOf (bytes "")
     ∷ []
 
-pub headers-read : headers ≡ Ends 18 ∷ Ends 19 ∷ Ends 17 ∷ NoHeader ∷ NoHeader ∷ NoHeader ∷ NoHeader ∷ []
-unfolding headerOf endOf begins
+pub headers-read : headers ≡ Ends false 18 ∷ Ends false 19 ∷ Ends false 17 ∷ Ends true 20 ∷ Ends true 19 ∷ NoHeader ∷ NoHeader ∷ NoHeader ∷ NoHeader ∷ NoHeader ∷ []
+unfolding headerOf headed endOf begins
 headers-read = refl

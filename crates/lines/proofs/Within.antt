@@ -20,8 +20,10 @@ use Rattle.lines.specs.declared.names.Name.{Name}
 use Rattle.lines.specs.declared.names.Name.the-variants.{Known, Unknown}
 use Rattle.lines.specs.declared.fields.End.{End}
 use Rattle.lines.specs.declared.fields.End.the-variants.{Closes, NoEnd}
+use Rattle.lines.specs.declared.fields.Tail.{Tail}
+use Rattle.lines.specs.declared.fields.Tail.the-variants.{Two, NoTail}
 use Rattle.lines.specs.declared.fields.Fields.{Fields}
-use Rattle.lines.specs.declared.fields.Fields.the-variants.{Three, NoFields}
+use Rattle.lines.specs.declared.fields.Fields.the-variants.{Four, NoFields}
 use Rattle.lines.specs.declared.line.Letter.{Letter}
 use Rattle.lines.specs.declared.line.Letter.the-variants.{Is, NoLetter}
 use Rattle.lines.specs.declared.line.Line.{Line}
@@ -29,8 +31,8 @@ use Rattle.lines.specs.declared.line.Line.the-variants.{Reads, Unreadabl
 use Rattle.lines.specs.declared.line.Header.{Header}
 use Rattle.lines.specs.declared.line.Header.the-variants.{Ends, NoHeader}
 use Rattle.lines.specs.Services.{Service, services, label, callOf, nameIn, nameOf}
-use Rattle.lines.specs.Fields.{fieldOf, numberThen, commaField, endOf, endThen, lastField, fieldThen, fieldsOf}
-use Rattle.lines.specs.Lines.{letterOf, letterThen, nameThen, fieldsThen, lineOf, headerThen, headerOf}
+use Rattle.lines.specs.Fields.{fieldOf, numberThen, commaField, endOf, endThen, lastField, tailField, narrowTail, wideTail, tailOf, fieldThen, tailThen, fieldsOf}
+use Rattle.lines.specs.Lines.{letterOf, letterThen, nameThen, fieldsThen, lineOf, headerThen, headed, headerOf}
 
 -- what a call's result was found to be, said of what the callee ensures of it
 pub got : {A : Type 0} {r x y : A} → r ≡ x → r ≡ y → x ≡ y
@@ -41,8 +43,12 @@ abbrev pub EndIn : End → ℕ → Type 0
 EndIn (Closes k) l = k ≤ l
 EndIn NoEnd l = Unit
 
+abbrev pub TailIn : Tail → ℕ → Type 0
+TailIn (Two c d k) l = k ≤ l
+TailIn NoTail l = Unit
+
 abbrev pub FieldsIn : Fields → ℕ → Type 0
-FieldsIn (Three a b c k) l = k ≤ l
+FieldsIn (Four a b c d k) l = k ≤ l
 FieldsIn NoFields l = Unit
 
 abbrev pub LetterIn : Letter → ℕ → Type 0
@@ -58,7 +64,7 @@ LineIn (Reads x a n) l = (0 < n) × (n ≤ l)
 LineIn Unreadable l = Unit
 
 abbrev pub HeaderIn : Header → ℕ → Type 0
-HeaderIn (Ends n) l = n ≤ l
+HeaderIn (Ends wide n) l = n ≤ l
 HeaderIn NoHeader l = Unit
 
 -- a length within what is left after n bytes, added to n
@@ -102,21 +108,47 @@ last-in used s = first (fieldOf used s) (field-in used s)
     first (Digits v n) h = second v n h (endOf (drop n s)) (end-in (drop n s))
     first NoNumber h = tt
 
-pub fields-in : (takes : ℕ) (s : List ℕ) → FieldsIn (fieldsOf takes s) (length s)
-unfolding fieldsOf
-fields-in takes s = first (commaField (ltb 0 takes) s) (comma-in (ltb 0 takes) s)
+narrow-in : (takes : ℕ) (s : List ℕ) → TailIn (narrowTail takes s) (length s)
+unfolding narrowTail
+narrow-in takes s = go (ltb 3 takes) (lastField (ltb 2 takes) s) (last-in (ltb 2 takes) s)
   where
-    third : (a b i : ℕ) → i ≤ length s → (t : Number) → NumberIn t (length (drop i s)) → FieldsIn (fieldThen t (λ c k. Three a b c (i + k))) (length s)
-    third a b i h (Digits c k) g = after s i k h g
-    third a b i h NoNumber g = tt
+    go : (b : Bool) (t : Number) → NumberIn t (length s) → TailIn (cond b NoTail (tailField t (λ c i. Two c 0 i))) (length s)
+    go true t g = tt
+    go false (Digits c i) g = g
+    go false NoNumber g = tt
+
+pub wide-in : (takes : ℕ) (s : List ℕ) → TailIn (wideTail takes s) (length s)
+unfolding wideTail
+wide-in takes s = first (commaField (ltb 2 takes) s) (comma-in (ltb 2 takes) s)
+  where
+    second : (c i : ℕ) → i ≤ length s → (t : Number) → NumberIn t (length (drop i s)) → TailIn (tailField t (λ d j. Two c d (i + j))) (length s)
+    second c i h (Digits d j) g = after s i j h g
+    second c i h NoNumber g = tt
+
+    first : (t : Number) → NumberIn t (length s) → TailIn (tailField t (λ c i. tailField (lastField (ltb 3 takes) (drop i s)) (λ d j. Two c d (i + j)))) (length s)
+    first (Digits c i) g = second c i g (lastField (ltb 3 takes) (drop i s)) (last-in (ltb 3 takes) (drop i s))
+    first NoNumber g = tt
+
+pub tail-in : (wide : Bool) (takes : ℕ) (s : List ℕ) → TailIn (tailOf wide takes s) (length s)
+unfolding tailOf
+tail-in true takes s = wide-in takes s
+tail-in false takes s = narrow-in takes s
+
+pub fields-in : (wide : Bool) (takes : ℕ) (s : List ℕ) → FieldsIn (fieldsOf wide takes s) (length s)
+unfolding fieldsOf
+fields-in wide takes s = first (commaField (ltb 0 takes) s) (comma-in (ltb 0 takes) s)
+  where
+    third : (a b i : ℕ) → i ≤ length s → (t : Tail) → TailIn t (length (drop i s)) → FieldsIn (tailThen t (λ c d k. Four a b c d (i + k))) (length s)
+    third a b i h (Two c d k) g = after s i k h g
+    third a b i h NoTail g = tt
 
     second : (a i : ℕ) → i ≤ length s → (t : Number) → NumberIn t (length (drop i s))
-        → FieldsIn (fieldThen t (λ b j. fieldThen (lastField (ltb 2 takes) (drop (i + j) s)) (λ c k. Three a b c (i + j + k)))) (length s)
-    second a i h (Digits b j) g = third a b (i + j) (after s i j h g) (lastField (ltb 2 takes) (drop (i + j) s)) (last-in (ltb 2 takes) (drop (i + j) s))
+        → FieldsIn (fieldThen t (λ b j. tailThen (tailOf wide takes (drop (i + j) s)) (λ c d k. Four a b c d (i + j + k)))) (length s)
+    second a i h (Digits b j) g = third a b (i + j) (after s i j h g) (tailOf wide takes (drop (i + j) s)) (tail-in wide takes (drop (i + j) s))
     second a i h NoNumber g = tt
 
     first : (t : Number) → NumberIn t (length s)
-        → FieldsIn (fieldThen t (λ a i. fieldThen (commaField (ltb 1 takes) (drop i s)) (λ b j. fieldThen (lastField (ltb 2 takes) (drop (i + j) s)) (λ c k. Three a b c (i + j + k))))) (length s)
+        → FieldsIn (fieldThen t (λ a i. fieldThen (commaField (ltb 1 takes) (drop i s)) (λ b j. tailThen (tailOf wide takes (drop (i + j) s)) (λ c d k. Four a b c d (i + j + k))))) (length s)
     first (Digits a i) g = second a i g (commaField (ltb 1 takes) (drop i s)) (comma-in (ltb 1 takes) (drop i s))
     first NoNumber g = tt
 
@@ -140,31 +172,37 @@ pub name-in : (s : List ℕ) → NameIn (nameOf s) (length s)
 unfolding nameOf
 name-in s = name-among services 0 s
 
-pub line-in : (s : List ℕ) → LineIn (lineOf s) (length s)
+pub line-in : (wide : Bool) (s : List ℕ) → LineIn (lineOf wide s) (length s)
 unfolding lineOf
-line-in s = first (letterOf s) (letter-in s)
+line-in wide s = first (letterOf s) (letter-in s)
   where
     third : (x : Context) (k i : ℕ) → 0 < i → i ≤ length s → (t : Fields) → FieldsIn t (length (drop i s))
-        → LineIn (fieldsThen t (λ a b c m. Reads x (callOf k a b c) (i + m))) (length s)
-    third x k i p h (Three a b c m) g = (omega arith, after s i m h g)
+        → LineIn (fieldsThen t (λ a b c d m. Reads x (callOf k a b c d) (i + m))) (length s)
+    third x k i p h (Four a b c d m) g = (omega arith, after s i m h g)
     third x k i p h NoFields g = tt
 
     second : (x : Context) → 2 ≤ length s → (t : Name) → NameIn t (length (drop 2 s))
-        → LineIn (nameThen t (λ k takes n. fieldsThen (fieldsOf takes (drop (2 + n) s)) (λ a b c m. Reads x (callOf k a b c) (2 + n + m)))) (length s)
-    second x h (Known k takes n) g = third x k (2 + n) (omega arith) (after s 2 n h g) (fieldsOf takes (drop (2 + n) s)) (fields-in takes (drop (2 + n) s))
+        → LineIn (nameThen t (λ k takes n. fieldsThen (fieldsOf wide takes (drop (2 + n) s)) (λ a b c d m. Reads x (callOf k a b c d) (2 + n + m)))) (length s)
+    second x h (Known k takes n) g = third x k (2 + n) (omega arith) (after s 2 n h g) (fieldsOf wide takes (drop (2 + n) s)) (fields-in wide takes (drop (2 + n) s))
     second x h Unknown g = tt
 
     first : (t : Letter) → LetterIn t (length s)
-        → LineIn (letterThen t (λ x. nameThen (nameOf (drop 2 s)) (λ k takes n. fieldsThen (fieldsOf takes (drop (2 + n) s)) (λ a b c m. Reads x (callOf k a b c) (2 + n + m))))) (length s)
+        → LineIn (letterThen t (λ x. nameThen (nameOf (drop 2 s)) (λ k takes n. fieldsThen (fieldsOf wide takes (drop (2 + n) s)) (λ a b c d m. Reads x (callOf k a b c d) (2 + n + m))))) (length s)
     first (Is x) h = second x h (nameOf (drop 2 s)) (name-in (drop 2 s))
     first NoLetter h = tt
+
+headed-in : (t : List ℕ) (wide : Bool) (s : List ℕ) → HeaderIn (headed t wide s) (length s)
+unfolding headed
+headed-in t wide s =
+    cond-by (λ (h : Header). HeaderIn h (length s)) (begins s t) (headerThen (endOf (drop (length t) s)) (λ k. Ends wide (length t + k))) NoHeader
+    (λ e. go (begins-in s t e) (endOf (drop (length t) s)) (end-in (drop (length t) s))) tt
+  where
+    go : length t ≤ length s → (x : End) → EndIn x (length (drop (length t) s)) → HeaderIn (headerThen x (λ k. Ends wide (length t + k))) (length s)
+    go h (Closes k) g = after s (length t) k h g
+    go h NoEnd g = tt
 
 pub header-in : (s : List ℕ) → HeaderIn (headerOf s) (length s)
 unfolding headerOf
 header-in s =
-    cond-by (λ (t : Header). HeaderIn t (length s)) (begins s (bytes "ctx,service,a,b,c")) (headerThen (endOf (drop 17 s)) (λ k. Ends (17 + k))) NoHeader
-    (λ e. go (begins-in s (bytes "ctx,service,a,b,c") e) (endOf (drop 17 s)) (end-in (drop 17 s))) tt
-  where
-    go : 17 ≤ length s → (t : End) → EndIn t (length (drop 17 s)) → HeaderIn (headerThen t (λ k. Ends (17 + k))) (length s)
-    go h (Closes k) g = after s 17 k h g
-    go h NoEnd g = tt
+    cond-by (λ (t : Header). HeaderIn t (length s)) (begins s (bytes "ctx,service,a,b,c,d")) (headed (bytes "ctx,service,a,b,c,d") true s) (headed (bytes "ctx,service,a,b,c") false s)
+    (λ _. headed-in (bytes "ctx,service,a,b,c,d") true s) (headed-in (bytes "ctx,service,a,b,c") false s)

@@ -11,8 +11,10 @@ use Rattle.text.specs.Number.{numberOf}
 use Rattle.text.specs.Bytes.{bytes, begins}
 use Rattle.lines.specs.declared.fields.End.{End}
 use Rattle.lines.specs.declared.fields.End.the-variants.{Closes, NoEnd}
+use Rattle.lines.specs.declared.fields.Tail.{Tail}
+use Rattle.lines.specs.declared.fields.Tail.the-variants.{Two, NoTail}
 use Rattle.lines.specs.declared.fields.Fields.{Fields}
-use Rattle.lines.specs.declared.fields.Fields.the-variants.{Three, NoFields}
+use Rattle.lines.specs.declared.fields.Fields.the-variants.{Four, NoFields}
 
 -- a used field is a number, an unused one is blank
 unfoldable pub fieldOf : Bool → List ℕ → Number
@@ -41,14 +43,36 @@ endThen NoEnd f = NoNumber
 unfoldable pub lastField : Bool → List ℕ → Number
 lastField used s = numberThen (fieldOf used s) (λ v n. endThen (endOf (drop n s)) (λ k. Digits v (n + k)))
 
+abbrev pub tailField : Number → (ℕ → ℕ → Tail) → Tail
+tailField (Digits v n) f = f v n
+tailField NoNumber f = NoTail
+
+-- a service that takes more than three numbers has no room on a line of five fields, where d stands for 0
+unfoldable pub narrowTail : ℕ → List ℕ → Tail
+narrowTail takes s = cond (ltb 3 takes) NoTail (tailField (lastField (ltb 2 takes) s) (λ c i. Two c 0 i))
+
+unfoldable pub wideTail : ℕ → List ℕ → Tail
+wideTail takes s =
+    tailField (commaField (ltb 2 takes) s) (λ c i.
+    tailField (lastField (ltb 3 takes) (drop i s)) (λ d j.
+    Two c d (i + j)))
+
+-- what follows the field b: c and the line end, or on a line of six fields c, d and the line end
+unfoldable pub tailOf : Bool → ℕ → List ℕ → Tail
+tailOf wide takes s = cond wide (wideTail takes s) (narrowTail takes s)
+
 abbrev pub fieldThen : Number → (ℕ → ℕ → Fields) → Fields
 fieldThen (Digits v n) f = f v n
 fieldThen NoNumber f = NoFields
 
--- the fields a, b and c, of which the first `takes` are used, each read in the part that begins at its first byte
-unfoldable pub fieldsOf : ℕ → List ℕ → Fields
-fieldsOf takes s =
+abbrev pub tailThen : Tail → (ℕ → ℕ → ℕ → Fields) → Fields
+tailThen (Two c d n) f = f c d n
+tailThen NoTail f = NoFields
+
+-- the fields a, b, c and d, of which the first `takes` are used, each read in the part that begins at its first byte
+unfoldable pub fieldsOf : Bool → ℕ → List ℕ → Fields
+fieldsOf wide takes s =
     fieldThen (commaField (ltb 0 takes) s) (λ a i.
     fieldThen (commaField (ltb 1 takes) (drop i s)) (λ b j.
-    fieldThen (lastField (ltb 2 takes) (drop (i + j) s)) (λ c k.
-    Three a b c (i + j + k))))
+    tailThen (tailOf wide takes (drop (i + j) s)) (λ c d k.
+    Four a b c d (i + j + k))))

@@ -1,9 +1,9 @@
 -- One line of a list of calls, from its first byte on, and the header.
 -- It rests on the table of services and on the fields.
 use Prim.Native.Nat.{ℕ, _+_}
-use mathlib.Core.Bool.{cond}
+use mathlib.Core.Bool.{Bool, true, false, cond}
 use mathlib.Core.List.{List}
-use lib.ListN.{drop}
+use lib.ListN.{length, drop}
 use Rattle.text.specs.Bytes.{bytes, begins}
 use Rattle.model.specs.declared.Context.{Context}
 use Rattle.model.specs.declared.Context.the-variants.{T, I}
@@ -12,7 +12,7 @@ use Rattle.lines.specs.declared.names.Name.the-variants.{Known, Unknown}
 use Rattle.lines.specs.declared.fields.End.{End}
 use Rattle.lines.specs.declared.fields.End.the-variants.{Closes, NoEnd}
 use Rattle.lines.specs.declared.fields.Fields.{Fields}
-use Rattle.lines.specs.declared.fields.Fields.the-variants.{Three, NoFields}
+use Rattle.lines.specs.declared.fields.Fields.the-variants.{Four, NoFields}
 use Rattle.lines.specs.declared.line.Letter.{Letter}
 use Rattle.lines.specs.declared.line.Letter.the-variants.{Is, NoLetter}
 use Rattle.lines.specs.declared.line.Line.{Line}
@@ -34,22 +34,26 @@ abbrev pub nameThen : Name → (ℕ → ℕ → ℕ → Line) → Line
 nameThen (Known k takes n) f = f k takes n
 nameThen Unknown f = Unreadable
 
-abbrev pub fieldsThen : Fields → (ℕ → ℕ → ℕ → ℕ → Line) → Line
-fieldsThen (Three a b c n) f = f a b c n
+abbrev pub fieldsThen : Fields → (ℕ → ℕ → ℕ → ℕ → ℕ → Line) → Line
+fieldsThen (Four a b c d n) f = f a b c d n
 fieldsThen NoFields f = Unreadable
 
--- context, service, three numbers and the line end: each is read in the part that begins at its first byte
-unfoldable pub lineOf : List ℕ → Line
-lineOf s =
+-- context, service, numbers and the line end: each is read in the part that begins at its first byte
+unfoldable pub lineOf : Bool → List ℕ → Line
+lineOf wide s =
     letterThen (letterOf s) (λ x.
     nameThen (nameOf (drop 2 s)) (λ k takes n.
-    fieldsThen (fieldsOf takes (drop (2 + n) s)) (λ a b c m.
-    Reads x (callOf k a b c) (2 + n + m))))
+    fieldsThen (fieldsOf wide takes (drop (2 + n) s)) (λ a b c d m.
+    Reads x (callOf k a b c d) (2 + n + m))))
 
 abbrev pub headerThen : End → (ℕ → Header) → Header
 headerThen (Closes k) f = f k
 headerThen NoEnd f = NoHeader
 
--- the header and its line end
+-- the header t and its line end
+unfoldable pub headed : List ℕ → Bool → List ℕ → Header
+headed t wide s = cond (begins s t) (headerThen (endOf (drop (length t) s)) (λ k. Ends wide (length t + k))) NoHeader
+
+-- its lines are wide, of six fields, or of five
 unfoldable pub headerOf : List ℕ → Header
-headerOf s = cond (begins s (bytes "ctx,service,a,b,c")) (headerThen (endOf (drop 17 s)) (λ k. Ends (17 + k))) NoHeader
+headerOf s = cond (begins s (bytes "ctx,service,a,b,c,d")) (headed (bytes "ctx,service,a,b,c,d") true s) (headed (bytes "ctx,service,a,b,c") false s)

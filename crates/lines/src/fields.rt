@@ -1,7 +1,7 @@
 // The fields of numbers after a service's name, and the line end.
 // Each function is a definition of specs/Fields, for every value; it rests on text.
 ghost use mathlib.Core.Path.{_≡_};
-ghost use Rattle.lines.specs.Fields.{fieldOf, commaField, endOf, lastField, fieldsOf};
+ghost use Rattle.lines.specs.Fields.{fieldOf, commaField, endOf, lastField, narrowTail, wideTail, tailOf, fieldsOf};
 use text::number::Number;
 use text::number::read_number;
 use text::words::begins;
@@ -13,9 +13,21 @@ pub enum End {
     NoEnd,
 }
 
-// The three numbers with their length, line end included.
+// The last two numbers with their length, line end included.
+pub enum Tail {
+    Two { c: u32, d: u32, next: usize },
+    NoTail,
+}
+
+// The four numbers with their length, line end included.
 pub enum Fields {
-    Three { a: u32, b: u32, c: u32, next: usize },
+    Four {
+        a: u32,
+        b: u32,
+        c: u32,
+        d: u32,
+        next: usize,
+    },
     NoFields,
 }
 
@@ -78,9 +90,44 @@ fn last_field(s: &[u8], used: bool) -> Number
     }
 }
 
-// The fields a, b and c, of which the first `takes` are used.
-pub fn read_fields(s: &[u8], takes: u8) -> Fields
-    ensures { λ r. ⌜ r ≡ fieldsOf takes (now (s .entry)) ⌝ }
+// The field c and the line end, where the service takes no d.
+fn narrow_tail(s: &[u8], takes: u8) -> Tail
+    ensures { λ r. ⌜ r ≡ narrowTail takes (now (s .entry)) ⌝ }
+{
+    if 3 < takes {
+        return Tail::NoTail;
+    }
+    let Number::Digits { value: c, next } = last_field(s, 2 < takes) else {
+        return Tail::NoTail;
+    };
+    Tail::Two { c, d: 0, next }
+}
+
+// The fields c and d, and the line end.
+fn wide_tail(s: &[u8], takes: u8) -> Tail
+    ensures { λ r. ⌜ r ≡ wideTail takes (now (s .entry)) ⌝ }
+{
+    let Number::Digits { value: c, next: i } = comma_field(s, 2 < takes) else {
+        return Tail::NoTail;
+    };
+    let Number::Digits { value: d, next: j } = last_field(&s[i..], 3 < takes) else {
+        return Tail::NoTail;
+    };
+    Tail::Two { c, d, next: i + j }
+}
+
+fn read_tail(s: &[u8], wide: bool, takes: u8) -> Tail
+    ensures { λ r. ⌜ r ≡ tailOf wide takes (now (s .entry)) ⌝ }
+{
+    if wide {
+        return wide_tail(s, takes);
+    }
+    narrow_tail(s, takes)
+}
+
+// The fields a, b, c and d, of which the first `takes` are used; only wide lines have a d.
+pub fn read_fields(s: &[u8], wide: bool, takes: u8) -> Fields
+    ensures { λ r. ⌜ r ≡ fieldsOf wide takes (now (s .entry)) ⌝ }
 {
     let Number::Digits { value: a, next: i } = comma_field(s, 0 < takes) else {
         return Fields::NoFields;
@@ -89,13 +136,14 @@ pub fn read_fields(s: &[u8], takes: u8) -> Fields
         return Fields::NoFields;
     };
     let at = i + j;
-    let Number::Digits { value: c, next: k } = last_field(&s[at..], 2 < takes) else {
+    let Tail::Two { c, d, next: k } = read_tail(&s[at..], wide, takes) else {
         return Fields::NoFields;
     };
-    Fields::Three {
+    Fields::Four {
         a,
         b,
         c,
+        d,
         next: at + k,
     }
 }

@@ -2,7 +2,7 @@
 // Each function is a definition of specs/Lines, for every value; it rests on names and fields.
 ghost use mathlib.Core.Path.{_≡_};
 ghost use Rattle.lines.specs.Services.{callOf};
-ghost use Rattle.lines.specs.Lines.{letterOf, lineOf, headerOf};
+ghost use Rattle.lines.specs.Lines.{letterOf, lineOf, headed, headerOf};
 use crate::fields::End;
 use crate::fields::Fields;
 use crate::fields::line_end;
@@ -11,6 +11,7 @@ use crate::names::Name;
 use crate::names::read_name;
 use model::Call;
 use model::Context;
+use model::Event;
 use text::words::begins;
 
 // The context that a line's first letter names.
@@ -29,9 +30,9 @@ pub enum Line {
     Unreadable,
 }
 
-// The length of the header line, line end included.
+// Whether the lines are wide, of six fields and not five, and the length of the header line, line end included.
 pub enum Header {
-    Ends { next: usize },
+    Ends { wide: bool, next: usize },
     NoHeader,
 }
 
@@ -52,9 +53,9 @@ fn read_letter(s: &[u8]) -> Letter
     Letter::NoLetter
 }
 
-// The call that the numbers a, b and c make of a service.
-fn call_of(number: u8, a: u32, b: u32, c: u32) -> Call
-    ensures { λ r. ⌜ r ≡ callOf number a b c ⌝ }
+// The call that the numbers a, b, c and d make of a service.
+fn call_of(number: u8, a: u32, b: u32, c: u32, d: u32) -> Call
+    ensures { λ r. ⌜ r ≡ callOf number a b c d ⌝ }
 {
     match number {
         0 => Call::TaskCreate {
@@ -94,13 +95,62 @@ fn call_of(number: u8, a: u32, b: u32, c: u32) -> Call
         },
         21 => Call::SemPolling { semaphore: a },
         22 => Call::SemIpolling { semaphore: a },
+        23 => Call::Event {
+            flag: a,
+            service: Event::Create {
+                attributes: b,
+                bits: c,
+            },
+        },
+        24 => Call::Event {
+            flag: a,
+            service: Event::Delete,
+        },
+        25 => Call::Event {
+            flag: a,
+            service: Event::Set { bits: b },
+        },
+        26 => Call::Event {
+            flag: a,
+            service: Event::Iset { bits: b },
+        },
+        27 => Call::Event {
+            flag: a,
+            service: Event::Clear { bits: b },
+        },
+        28 => Call::Event {
+            flag: a,
+            service: Event::Iclear { bits: b },
+        },
+        29 => Call::Event {
+            flag: a,
+            service: Event::Wait {
+                pattern: b,
+                mode: c,
+                timeout: d,
+            },
+        },
+        30 => Call::Event {
+            flag: a,
+            service: Event::WaitPolling {
+                pattern: b,
+                mode: c,
+            },
+        },
+        31 => Call::Event {
+            flag: a,
+            service: Event::Iwait {
+                pattern: b,
+                mode: c,
+            },
+        },
         _ => Call::TickIntProcessing,
     }
 }
 
 // The line that begins s.
-pub fn read_line(s: &[u8]) -> Line
-    ensures { λ r. ⌜ r ≡ lineOf (now (s .entry)) ⌝ }
+pub fn read_line(s: &[u8], wide: bool) -> Line
+    ensures { λ r. ⌜ r ≡ lineOf wide (now (s .entry)) ⌝ }
 {
     let Letter::Is { context } = read_letter(s) else {
         return Line::Unreadable;
@@ -114,16 +164,17 @@ pub fn read_line(s: &[u8]) -> Line
         return Line::Unreadable;
     };
     let at = 2 + next;
-    let Fields::Three {
+    let Fields::Four {
         a,
         b,
         c,
+        d,
         next: rest,
-    } = read_fields(&s[at..], takes)
+    } = read_fields(&s[at..], wide, takes)
     else {
         return Line::Unreadable;
     };
-    let call = call_of(number, a, b, c);
+    let call = call_of(number, a, b, c, d);
     Line::Reads {
         context,
         call,
@@ -131,15 +182,29 @@ pub fn read_line(s: &[u8]) -> Line
     }
 }
 
+// The header t and its line end.
+fn headed(s: &[u8], t: &[u8], wide: bool) -> Header
+    ensures { λ r. ⌜ r ≡ headed (now (t .entry)) wide (now (s .entry)) ⌝ }
+{
+    if !begins(s, t) {
+        return Header::NoHeader;
+    }
+    let n = t.len();
+    let End::Closes { next } = line_end(&s[n..]) else {
+        return Header::NoHeader;
+    };
+    Header::Ends {
+        wide,
+        next: n + next,
+    }
+}
+
 // The header that begins s.
 pub fn read_header(s: &[u8]) -> Header
     ensures { λ r. ⌜ r ≡ headerOf (now (s .entry)) ⌝ }
 {
-    if !begins(s, b"ctx,service,a,b,c") {
-        return Header::NoHeader;
+    if begins(s, b"ctx,service,a,b,c,d") {
+        return headed(s, b"ctx,service,a,b,c,d", true);
     }
-    let End::Closes { next } = line_end(&s[17..]) else {
-        return Header::NoHeader;
-    };
-    Header::Ends { next: 17 + next }
+    headed(s, b"ctx,service,a,b,c", false)
 }

@@ -1,7 +1,7 @@
 // The service whose name, with the comma after it, begins a part of a file.
 // Each function is a definition of specs/Services, for every value; it rests on text.
 ghost use mathlib.Core.Path.{_≡_};
-ghost use Rattle.lines.specs.Services.{tasks, semaphores, named, nameIn, nameOf};
+ghost use Rattle.lines.specs.Services.{tasks, semaphores, events, named, nameIn, nameOf};
 use text::words::begins;
 use text::words::byte_at;
 
@@ -64,6 +64,32 @@ fn semaphore_name(s: &[u8]) -> Name
     }
 }
 
+fn event_name(s: &[u8]) -> Name
+    ensures { λ r. ⌜ r ≡ nameIn events 23 (now (s .entry)) ⌝ }
+{
+    let key = byte_at(s, 10) as u32 + byte_at(s, 12) as u32;
+    match key {
+        211 => named(s, b"tn_event_create,", 23, 3),
+        202 => named(s, b"tn_event_delete,", 24, 1),
+        145 => named(s, b"tn_event_set,", 25, 2),
+        231 => named(s, b"tn_event_iset,", 26, 2),
+        205 => named(s, b"tn_event_clear,", 27, 2),
+        200 => named(s, b"tn_event_iclear,", 28, 2),
+        213 => {
+            if begins(s, b"tn_event_wait,") {
+                return Name::Known {
+                    number: 29,
+                    takes: 4,
+                    next: 14,
+                };
+            }
+            named(s, b"tn_event_wait_polling,", 30, 3)
+        }
+        224 => named(s, b"tn_event_iwait,", 31, 3),
+        _ => Name::Unknown,
+    }
+}
+
 pub fn read_name(s: &[u8]) -> Name
     ensures { λ r. ⌜ r ≡ nameOf (now (s .entry)) ⌝ }
 {
@@ -73,6 +99,7 @@ pub fn read_name(s: &[u8]) -> Name
         b'y' => named(s, b"tn_sys_tslice_ticks,", 14, 2),
         b'i' => named(s, b"tn_tick_int_processing,", 15, 0),
         b'e' => semaphore_name(s),
+        b'v' => event_name(s),
         _ => Name::Unknown,
     }
 }

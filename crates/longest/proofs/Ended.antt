@@ -1,11 +1,11 @@
--- A line or header that more bytes follow has a line end, so it has at least 18 bytes.
--- It rests on the table of services and on the definitions of lines.
-use Prim.Native.Nat.{ℕ, _+_, _<_, _≤_}
-use mathlib.Core.Bool.{Bool, cond}
-use mathlib.Core.List.{List, [], _∷_}
+-- A line or header that more bytes follow has a line end, so it has at least 18 bytes; a wide line has 19 and its header 20.
+-- It rests on the definitions of lines, and on the least lengths proved there.
+use Prim.Native.Nat.{ℕ, _+_, _*_, _<_, _≤_}
+use mathlib.Core.Bool.{Bool, true, false, cond}
+use mathlib.Core.List.{List}
 use native.Mathlib.Omega.{arith}
-use lib.Dec.{T, ltb, leb, eqb, leb→le}
-use lib.ListN.{length, getD, drop, length-drop}
+use lib.Dec.{ltb, eqb}
+use lib.ListN.{length, drop, length-drop}
 use borrow.Author.Tests.{eqb-true}
 use Rattle.text.specs.declared.number.Number.{Number}
 use Rattle.text.specs.declared.number.Number.the-variants.{Digits, NoNumber}
@@ -16,18 +16,20 @@ use Rattle.lines.specs.declared.names.Name.{Name}
 use Rattle.lines.specs.declared.names.Name.the-variants.{Known, Unknown}
 use Rattle.lines.specs.declared.fields.End.{End}
 use Rattle.lines.specs.declared.fields.End.the-variants.{Closes, NoEnd}
+use Rattle.lines.specs.declared.fields.Tail.{Tail}
+use Rattle.lines.specs.declared.fields.Tail.the-variants.{Two, NoTail}
 use Rattle.lines.specs.declared.fields.Fields.{Fields}
-use Rattle.lines.specs.declared.fields.Fields.the-variants.{Three, NoFields}
+use Rattle.lines.specs.declared.fields.Fields.the-variants.{Four, NoFields}
 use Rattle.lines.specs.declared.line.Letter.{Letter}
 use Rattle.lines.specs.declared.line.Letter.the-variants.{Is, NoLetter}
 use Rattle.lines.specs.declared.line.Line.{Line}
 use Rattle.lines.specs.declared.line.Line.the-variants.{Reads, Unreadable}
 use Rattle.lines.specs.declared.line.Header.{Header}
 use Rattle.lines.specs.declared.line.Header.the-variants.{Ends, NoHeader}
-use Rattle.lines.specs.Services.{Service, tasks, system, semaphores, services, label, callOf, nameIn, nameOf}
-use Rattle.lines.specs.Fields.{fieldOf, numberThen, commaField, endOf, endThen, lastField, fieldThen, fieldsOf}
-use Rattle.lines.specs.Lines.{letterOf, letterThen, nameThen, fieldsThen, lineOf, headerThen, headerOf}
-use Rattle.lines.proofs.Table.{long, both-left, both-right}
+use Rattle.lines.specs.Services.{callOf, nameOf}
+use Rattle.lines.specs.Fields.{fieldOf, numberThen, commaField, endOf, endThen, lastField, tailField, narrowTail, wideTail, tailOf, fieldThen, tailThen, fieldsOf}
+use Rattle.lines.specs.Lines.{letterOf, letterThen, nameThen, fieldsThen, lineOf, headerThen, headed, headerOf}
+use Rattle.lines.proofs.Long.{extra, NameHas, name-has, NumberHas, comma-has}
 
 -- of l bytes an answer takes n: that many at least, if more follow
 abbrev pub Before : ℕ → ℕ → ℕ → Type 0
@@ -37,28 +39,24 @@ abbrev EndEnds : End → ℕ → Type 0
 EndEnds (Closes k) l = Before k l 1
 EndEnds NoEnd l = Unit
 
-abbrev NumberHas : Number → Type 0
-NumberHas (Digits v n) = 1 ≤ n
-NumberHas NoNumber = Unit
-
 abbrev NumberEnds : Number → ℕ → Type 0
 NumberEnds (Digits v n) l = Before n l 1
 NumberEnds NoNumber l = Unit
 
-abbrev FieldsEnd : Fields → ℕ → Type 0
-FieldsEnd (Three a b c n) l = Before n l 3
-FieldsEnd NoFields l = Unit
+abbrev TailEnds : Bool → Tail → ℕ → Type 0
+TailEnds wide (Two c d n) l = Before n l (1 + extra wide)
+TailEnds wide NoTail l = Unit
 
-abbrev NameHas : Name → Type 0
-NameHas (Known k takes i) = 13 ≤ i
-NameHas Unknown = Unit
+abbrev FieldsEnd : Bool → Fields → ℕ → Type 0
+FieldsEnd wide (Four a b c d n) l = Before n l (3 + extra wide)
+FieldsEnd wide NoFields l = Unit
 
-abbrev pub LineEnds : Line → ℕ → Type 0
-LineEnds (Reads x c n) l = Before n l 18
-LineEnds Unreadable l = Unit
+abbrev pub LineEnds : Bool → Line → ℕ → Type 0
+LineEnds wide (Reads x c n) l = Before n l (18 + extra wide)
+LineEnds wide Unreadable l = Unit
 
 abbrev pub HeaderEnds : Header → ℕ → Type 0
-HeaderEnds (Ends n) l = Before n l 18
+HeaderEnds (Ends wide n) l = Before n l (18 + 2 * extra wide)
 HeaderEnds NoHeader l = Unit
 
 -- k of the bytes after the first n
@@ -74,14 +72,6 @@ end-ends s =
     (cond-by P (begins s (bytes "\n")) (Closes 1) _ (λ _ h. omega arith)
     (cond-by P (begins s (bytes "\r\n")) (Closes 2) NoEnd (λ _ h. omega arith) tt))
 
-comma-has : (used : Bool) (s : List ℕ) → NumberHas (commaField used s)
-unfolding commaField
-comma-has used s = go (fieldOf used s)
-  where
-    go : (t : Number) → NumberHas (numberThen t (λ v n. cond (eqb (getD s n 0) 44) (Digits v (n + 1)) NoNumber))
-    go (Digits v n) = cond-by NumberHas (eqb (getD s n 0) 44) (Digits v (n + 1)) NoNumber (λ e. omega arith) tt
-    go NoNumber = tt
-
 last-ends : (used : Bool) (s : List ℕ) → NumberEnds (lastField used s) (length s)
 unfolding lastField
 last-ends used s = first (fieldOf used s)
@@ -94,59 +84,73 @@ last-ends used s = first (fieldOf used s)
     first (Digits v n) = second v n (endOf (drop n s)) (end-ends (drop n s))
     first NoNumber = tt
 
-fields-end : (takes : ℕ) (s : List ℕ) → FieldsEnd (fieldsOf takes s) (length s)
-unfolding fieldsOf
-fields-end takes s = first (commaField (ltb 0 takes) s) (comma-has (ltb 0 takes) s)
+tail-ends : (wide : Bool) (takes : ℕ) (s : List ℕ) → TailEnds wide (tailOf wide takes s) (length s)
+unfolding tailOf wideTail narrowTail
+tail-ends true takes s = first (commaField (ltb 2 takes) s) (comma-has (ltb 2 takes) s)
   where
-    third : (a b i : ℕ) → 2 ≤ i → (t : Number) → NumberEnds t (length (drop i s)) → FieldsEnd (fieldThen t (λ c k. Three a b c (i + k))) (length s)
-    third a b i h (Digits c k) g = after s i k 3 1 g (omega arith)
-    third a b i h NoNumber g = tt
+    second : (c i : ℕ) → 1 ≤ i → (t : Number) → NumberEnds t (length (drop i s)) → TailEnds true (tailField t (λ d j. Two c d (i + j))) (length s)
+    second c i h (Digits d j) g = after s i j 2 1 g (omega arith)
+    second c i h NoNumber g = tt
+
+    first : (t : Number) → NumberHas t → TailEnds true (tailField t (λ c i. tailField (lastField (ltb 3 takes) (drop i s)) (λ d j. Two c d (i + j)))) (length s)
+    first (Digits c i) h = second c i h (lastField (ltb 3 takes) (drop i s)) (last-ends (ltb 3 takes) (drop i s))
+    first NoNumber h = tt
+tail-ends false takes s = go (ltb 3 takes) (lastField (ltb 2 takes) s) (last-ends (ltb 2 takes) s)
+  where
+    go : (b : Bool) (t : Number) → NumberEnds t (length s) → TailEnds false (cond b NoTail (tailField t (λ c i. Two c 0 i))) (length s)
+    go true t g = tt
+    go false (Digits c i) g = g
+    go false NoNumber g = tt
+
+fields-end : (wide : Bool) (takes : ℕ) (s : List ℕ) → FieldsEnd wide (fieldsOf wide takes s) (length s)
+unfolding fieldsOf
+fields-end wide takes s = first (commaField (ltb 0 takes) s) (comma-has (ltb 0 takes) s)
+  where
+    third : (a b i : ℕ) → 2 ≤ i → (t : Tail) → TailEnds wide t (length (drop i s)) → FieldsEnd wide (tailThen t (λ c d k. Four a b c d (i + k))) (length s)
+    third a b i h (Two c d k) g = after s i k (3 + extra wide) (1 + extra wide) g (omega arith)
+    third a b i h NoTail g = tt
 
     second : (a i : ℕ) → 1 ≤ i → (t : Number) → NumberHas t
-        → FieldsEnd (fieldThen t (λ b j. fieldThen (lastField (ltb 2 takes) (drop (i + j) s)) (λ c k. Three a b c (i + j + k)))) (length s)
-    second a i h (Digits b j) g = third a b (i + j) (omega arith) (lastField (ltb 2 takes) (drop (i + j) s)) (last-ends (ltb 2 takes) (drop (i + j) s))
+        → FieldsEnd wide (fieldThen t (λ b j. tailThen (tailOf wide takes (drop (i + j) s)) (λ c d k. Four a b c d (i + j + k)))) (length s)
+    second a i h (Digits b j) g = third a b (i + j) (omega arith) (tailOf wide takes (drop (i + j) s)) (tail-ends wide takes (drop (i + j) s))
     second a i h NoNumber g = tt
 
     first : (t : Number) → NumberHas t
-        → FieldsEnd (fieldThen t (λ a i. fieldThen (commaField (ltb 1 takes) (drop i s)) (λ b j. fieldThen (lastField (ltb 2 takes) (drop (i + j) s)) (λ c k. Three a b c (i + j + k))))) (length s)
+        → FieldsEnd wide (fieldThen t (λ a i. fieldThen (commaField (ltb 1 takes) (drop i s)) (λ b j. tailThen (tailOf wide takes (drop (i + j) s)) (λ c d k. Four a b c d (i + j + k))))) (length s)
     first (Digits a i) g = second a i g (commaField (ltb 1 takes) (drop i s)) (comma-has (ltb 1 takes) (drop i s))
     first NoNumber g = tt
 
 -- ---- the line and the header
-name-among : (xs : List Service) → T (long xs) → (k : ℕ) (s : List ℕ) → NameHas (nameIn xs k s)
-unfolding nameIn long
-name-among [] t k s = tt
-name-among (x ∷ xs) t k s =
-    cond-by NameHas (begins s (label x)) (Known k (x .takes) (length (label x))) (nameIn xs (k + 1) s)
-    (λ e. leb→le 13 (length (label x)) (both-left (leb 13 (length (label x))) (long xs) t)) (name-among xs (both-right (leb 13 (length (label x))) (long xs) t) (k + 1) s)
-
-name-has : (s : List ℕ) → NameHas (nameOf s)
-unfolding nameOf services tasks system semaphores long label
-name-has s = name-among services tt 0 s
-
-pub line-ends : (s : List ℕ) → LineEnds (lineOf s) (length s)
+pub line-ends : (wide : Bool) (s : List ℕ) → LineEnds wide (lineOf wide s) (length s)
 unfolding lineOf
-line-ends s = first (letterOf s)
+line-ends wide s = first (letterOf s)
   where
-    third : (x : Context) (k i : ℕ) → 15 ≤ i → (t : Fields) → FieldsEnd t (length (drop i s)) → LineEnds (fieldsThen t (λ a b c m. Reads x (callOf k a b c) (i + m))) (length s)
-    third x k i h (Three a b c m) g = after s i m 18 3 g (omega arith)
+    third : (x : Context) (k i : ℕ) → 15 ≤ i → (t : Fields) → FieldsEnd wide t (length (drop i s)) → LineEnds wide (fieldsThen t (λ a b c d m. Reads x (callOf k a b c d) (i + m))) (length s)
+    third x k i h (Four a b c d m) g = after s i m (18 + extra wide) (3 + extra wide) g (omega arith)
     third x k i h NoFields g = tt
 
     second : (x : Context) (t : Name) → NameHas t
-        → LineEnds (nameThen t (λ k takes n. fieldsThen (fieldsOf takes (drop (2 + n) s)) (λ a b c m. Reads x (callOf k a b c) (2 + n + m)))) (length s)
-    second x (Known k takes n) g = third x k (2 + n) (omega arith) (fieldsOf takes (drop (2 + n) s)) (fields-end takes (drop (2 + n) s))
+        → LineEnds wide (nameThen t (λ k takes n. fieldsThen (fieldsOf wide takes (drop (2 + n) s)) (λ a b c d m. Reads x (callOf k a b c d) (2 + n + m)))) (length s)
+    second x (Known k takes n) g = third x k (2 + n) (omega arith) (fieldsOf wide takes (drop (2 + n) s)) (fields-end wide takes (drop (2 + n) s))
     second x Unknown g = tt
 
-    first : (t : Letter) → LineEnds (letterThen t (λ x. nameThen (nameOf (drop 2 s)) (λ k takes n. fieldsThen (fieldsOf takes (drop (2 + n) s)) (λ a b c m. Reads x (callOf k a b c) (2 + n + m))))) (length s)
+    first : (t : Letter)
+        → LineEnds wide (letterThen t (λ x. nameThen (nameOf (drop 2 s)) (λ k takes n. fieldsThen (fieldsOf wide takes (drop (2 + n) s)) (λ a b c d m. Reads x (callOf k a b c d) (2 + n + m))))) (length s)
     first (Is x) = second x (nameOf (drop 2 s)) (name-has (drop 2 s))
     first NoLetter = tt
+
+headed-ends : (t : List ℕ) (wide : Bool) (s : List ℕ) → 17 + 2 * extra wide ≤ length t → HeaderEnds (headed t wide s) (length s)
+unfolding headed
+headed-ends t wide s h =
+    cond-by (λ (x : Header). HeaderEnds x (length s)) (begins s t) (headerThen (endOf (drop (length t) s)) (λ k. Ends wide (length t + k))) NoHeader
+    (λ _. go (endOf (drop (length t) s)) (end-ends (drop (length t) s))) tt
+  where
+    go : (x : End) → EndEnds x (length (drop (length t) s)) → HeaderEnds (headerThen x (λ k. Ends wide (length t + k))) (length s)
+    go (Closes k) g = after s (length t) k (18 + 2 * extra wide) 1 g (omega (arith, h))
+    go NoEnd g = tt
 
 pub header-ends : (s : List ℕ) → HeaderEnds (headerOf s) (length s)
 unfolding headerOf
 header-ends s =
-    cond-by (λ (t : Header). HeaderEnds t (length s)) (begins s (bytes "ctx,service,a,b,c")) (headerThen (endOf (drop 17 s)) (λ k. Ends (17 + k))) NoHeader
-    (λ _. go (endOf (drop 17 s)) (end-ends (drop 17 s))) tt
-  where
-    go : (t : End) → EndEnds t (length (drop 17 s)) → HeaderEnds (headerThen t (λ k. Ends (17 + k))) (length s)
-    go (Closes k) g = after s 17 k 18 1 g (omega arith)
-    go NoEnd g = tt
+    cond-by (λ (x : Header). HeaderEnds x (length s)) (begins s (bytes "ctx,service,a,b,c,d")) (headed (bytes "ctx,service,a,b,c,d") true s) (headed (bytes "ctx,service,a,b,c") false s)
+    (λ _. headed-ends (bytes "ctx,service,a,b,c,d") true s (omega arith)) (headed-ends (bytes "ctx,service,a,b,c") false s (omega arith))

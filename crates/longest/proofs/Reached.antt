@@ -1,6 +1,7 @@
 -- The bounds are reached: a file whose first call starts task 10 and whose other calls are refused has 3,639 calls and an answer of 42,576 bytes.
 -- It rests on Rows, and goes line by line.
 use mathlib.Core.Path.{_≡_, refl, ap, _∙_}
+use mathlib.Core.Bool.{false}
 use mathlib.Core.List.{List, [], _∷_, _++_}
 use Prim.Native.Nat.{ℕ, zero, suc, _+_, _*_, _≤_}
 use native.Mathlib.Omega.{arith}
@@ -26,9 +27,9 @@ use Rattle.kept.proofs.Kept.{fresh-is-sound, sound-stays-sound}
 use Rattle.lines.specs.declared.line.Line.the-variants.{Reads}
 use Rattle.lines.specs.declared.line.Header.the-variants.{Ends}
 use Rattle.lines.specs.declared.fields.End.the-variants.{Closes}
-use Rattle.lines.specs.Services.{tasks, system, semaphores, services, service, label, callOf, nameIn, nameOf}
-use Rattle.lines.specs.Fields.{fieldOf, commaField, endOf, lastField, fieldsOf}
-use Rattle.lines.specs.Lines.{letterOf, lineOf, headerOf}
+use Rattle.lines.specs.Services.{tasks, system, semaphores, events, services, service, label, callOf, nameIn, nameOf}
+use Rattle.lines.specs.Fields.{fieldOf, commaField, endOf, lastField, narrowTail, tailOf, fieldsOf}
+use Rattle.lines.specs.Lines.{letterOf, lineOf, headed, headerOf}
 use Rattle.runner.specs.declared.Ran.the-variants.{Wrote}
 use Rattle.runner.specs.Script.{Script, done, next, scriptIn, scriptOf, faultOf}
 use Rattle.runner.specs.Rows.{Row, rowsBy, rowsOf, signed, rowsText, textOf}
@@ -42,41 +43,41 @@ feed : (rest : List ℕ) → endOf (10 ∷ rest) ≡ Closes 1
 unfolding endOf begins
 feed rest = rw (ne-eqb (suc (length rest)) 0 (λ e. omega arith))
 
-exit-line : (rest : List ℕ) → lineOf (bytes "I,tn_task_exit,,,\n" ++ rest) ≡ Reads I TaskExit 18
-unfolding lineOf letterOf nameOf nameIn services tasks system semaphores label begins callOf service fieldsOf commaField lastField fieldOf
+exit-line : (rest : List ℕ) → lineOf false (bytes "I,tn_task_exit,,,\n" ++ rest) ≡ Reads I TaskExit 18
+unfolding lineOf letterOf nameOf nameIn services tasks system semaphores events label begins callOf service fieldsOf tailOf narrowTail commaField lastField fieldOf
 exit-line rest = simp (feed rest)
 
-last-line : lineOf (bytes "I,tn_task_exit,,,") ≡ Reads I TaskExit 17
-unfolding lineOf letterOf nameOf nameIn services tasks system semaphores label begins callOf service fieldsOf commaField lastField fieldOf endOf
+last-line : lineOf false (bytes "I,tn_task_exit,,,") ≡ Reads I TaskExit 17
+unfolding lineOf letterOf nameOf nameIn services tasks system semaphores events label begins callOf service fieldsOf tailOf narrowTail commaField lastField fieldOf endOf
 last-line = refl
 
-create-line : (rest : List ℕ) → lineOf (bytes "T,tn_task_create,10,1,1\n" ++ rest) ≡ Reads T (TaskCreate 10 1 1) 24
-unfolding lineOf letterOf nameOf nameIn services tasks system semaphores label begins callOf service fieldsOf commaField lastField fieldOf numberOf isDigit digits valueAfter ended
+create-line : (rest : List ℕ) → lineOf false (bytes "T,tn_task_create,10,1,1\n" ++ rest) ≡ Reads T (TaskCreate 10 1 1) 24
+unfolding lineOf letterOf nameOf nameIn services tasks system semaphores events label begins callOf service fieldsOf tailOf narrowTail commaField lastField fieldOf numberOf isDigit digits valueAfter ended
 create-line rest = simp (feed rest)
 
-header-line : (rest : List ℕ) → headerOf (bytes "ctx,service,a,b,c\n" ++ rest) ≡ Ends 18
-unfolding headerOf begins
+header-line : (rest : List ℕ) → headerOf (bytes "ctx,service,a,b,c\n" ++ rest) ≡ Ends false 18
+unfolding headerOf headed begins
 header-line rest = simp (feed rest)
 
 unfoldable exits : ℕ → Script
 exits zero = done
 exits (suc n) = next I TaskExit (exits n)
 
-script-exits : (n l : ℕ) → scriptIn 0 (refusals n) l ≡ exits (suc n)
+script-exits : (n l : ℕ) → scriptIn false 0 (refusals n) l ≡ exits (suc n)
 unfolding refusals exits
-script-exits zero l = script-next (bytes "I,tn_task_exit,,,") 0 l I TaskExit 17 (omega arith) (omega arith) last-line ∙ ap (next I TaskExit) (script-end [] 0 (l + 1) (omega arith))
-script-exits (suc n) l = script-next (bytes "I,tn_task_exit,,,\n" ++ refusals n) 0 l I TaskExit 18 (omega arith) (omega arith) (exit-line (refusals n)) ∙ ap (next I TaskExit) (script-exits n (l + 1))
+script-exits zero l = script-next false (bytes "I,tn_task_exit,,,") 0 l I TaskExit 17 (omega arith) (omega arith) last-line ∙ ap (next I TaskExit) (script-end false [] 0 (l + 1) (omega arith))
+script-exits (suc n) l = script-next false (bytes "I,tn_task_exit,,,\n" ++ refusals n) 0 l I TaskExit 18 (omega arith) (omega arith) (exit-line (refusals n)) ∙ ap (next I TaskExit) (script-exits n (l + 1))
 
 module _ (rest : List ℕ) where
   abbrev starts : List ℕ
   starts = bytes "ctx,service,a,b,c\n" ++ (bytes "T,tn_task_create,10,1,1\n" ++ rest)
 
-  starts-script : scriptOf starts ≡ next T (TaskCreate 10 1 1) (scriptIn 0 rest 3)
+  starts-script : scriptOf starts ≡ next T (TaskCreate 10 1 1) (scriptIn false 0 rest 3)
   unfolding scriptOf
   starts-script =
       rw (header-line (bytes "T,tn_task_create,10,1,1\n" ++ rest))
-      (script-drop 18 starts 2
-      ∙ script-next (bytes "T,tn_task_create,10,1,1\n" ++ rest) 0 2 T (TaskCreate 10 1 1) 24 (omega arith) (omega arith) (create-line rest))
+      (script-drop false 18 starts 2
+      ∙ script-next false (bytes "T,tn_task_create,10,1,1\n" ++ rest) 0 2 T (TaskCreate 10 1 1) 24 (omega arith) (omega arith) (create-line rest))
 
 script : scriptOf longest ≡ next T (TaskCreate 10 1 1) (exits 3638)
 unfolding longest
@@ -102,7 +103,7 @@ made-runs : running made ≡ 10
 unfolding step
 made-runs = made-answer .1
 
-exit-answer : (s : State) → step s I TaskExit ≡ record { code = WContext; running = running s; state = s }
+exit-answer : (s : State) → step s I TaskExit ≡ record { code = WContext; running = running s; value = 0; state = s }
 unfolding step planned plan exit carried
 exit-answer s = refl
 

@@ -1,10 +1,13 @@
 -- How many calls a file can hold and how long its answer can be, if the file is not too long: at most 65,536 bytes.
 -- They speak of the rows, the text and the outcome of runner, and are proved in proofs/Longest and proofs/Reached.
 use mathlib.Core.Path.{_≡_}
+use mathlib.Core.Bool.{true}
 use mathlib.Core.List.{List, _++_}
 use Prim.Native.Nat.{ℕ, zero, suc, _≤_}
 use lib.ListN.{length}
 use Rattle.text.specs.Bytes.{bytes}
+use Rattle.lines.specs.declared.line.Header.the-variants.{Ends}
+use Rattle.lines.specs.Lines.{headerOf}
 use Rattle.runner.specs.declared.Ran.the-variants.{Wrote, Short}
 use Rattle.runner.specs.Script.{scriptOf}
 use Rattle.runner.specs.Rows.{rowsOf, textOf}
@@ -12,6 +15,10 @@ use Rattle.runner.specs.Outcome.{ranOf}
 
 abbrev pub FewCalls : Type 0
 FewCalls = (file : List ℕ) → length file ≤ 65536 → length (rowsOf (scriptOf file)) ≤ 3639
+
+-- on lines of six fields
+abbrev pub FewWideCalls : Type 0
+FewWideCalls = (file : List ℕ) (h : ℕ) → length file ≤ 65536 → headerOf file ≡ Ends true h → length (rowsOf (scriptOf file)) ≤ 3448
 
 abbrev pub ShortAnswer : Type 0
 ShortAnswer = (file : List ℕ) → length file ≤ 65536 → length (textOf (scriptOf file)) ≤ 42576

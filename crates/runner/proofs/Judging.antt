@@ -2,7 +2,7 @@
 -- the same rows, since every state that a list reaches from the fresh one is sound. It rests on Playing, kept and tested.
 use Prim.Native.Nat.{ℕ, _+_, _<_, _≤_}
 use mathlib.Core.Path.{_≡_, refl, ap, sym, _∙_}
-use mathlib.Core.Bool.{true, false, cond}
+use mathlib.Core.Bool.{Bool, true, false, cond}
 use mathlib.Core.List.{List, [], _∷_, _++_}
 use native.Mathlib.Omega.{arith}
 use lib.ListN.{length, take, length-append, length-take, length-map}
@@ -54,8 +54,8 @@ module _ (file : List ℕ) (room : ℕ) where
     unfolding scriptOf judged faultOf
     headless e = rw (judges, e)
 
-    module _ (h : ℕ) (e : headerOf file ≡ Ends h) (r : Played) (p : Plays r (scriptIn h file 2)) where
-      script : scriptOf file ≡ scriptIn h file 2
+    module _ (wide : Bool) (h : ℕ) (e : headerOf file ≡ Ends wide h) (r : Played) (p : Plays r (scriptIn wide h file 2)) where
+      script : scriptOf file ≡ scriptIn wide h file 2
       unfolding scriptOf
       script = rw e
 
@@ -64,31 +64,31 @@ module _ (file : List ℕ) (room : ℕ) where
       faulty z = rw (judges, script, ← p .fault, ne-eqb _ _ z)
 
       module _ (z : r .fault ≡ 0) where
-        none : faultOf (scriptIn h file 2) ≡ 0
+        none : faultOf (scriptIn wide h file 2) ≡ 0
         none = sym (p .fault) ∙ z
 
         pub text : textOf (scriptOf file) ≡ bytes "n,code,running\r\n" ++ keptRows 1 (take (r .count) (r .codes)) (take (r .count) (r .runs))
-        text = rw (script, text-kept (scriptIn h file 2), p .codes none, p .runs none)
+        text = rw (script, text-kept (scriptIn wide h file 2), p .codes none, p .runs none)
 
         pub size : r .total ≡ length (textOf (scriptOf file))
         size =
             p .total none
-            ∙ ap (λ (t : List ℕ). 16 + length t) (rows-kept 1 (rowsBy Calls.step fresh (scriptIn h file 2)))
-            ∙ sym (length-append (bytes "n,code,running\r\n") (keptRows 1 (codesOf (rowsBy Calls.step fresh (scriptIn h file 2))) (runsOf (rowsBy Calls.step fresh (scriptIn h file 2)))))
-            ∙ ap length (sym (text-kept (scriptIn h file 2)) ∙ ap textOf (sym script))
+            ∙ ap (λ (t : List ℕ). 16 + length t) (rows-kept 1 (rowsBy Calls.step fresh (scriptIn wide h file 2)))
+            ∙ sym (length-append (bytes "n,code,running\r\n") (keptRows 1 (codesOf (rowsBy Calls.step fresh (scriptIn wide h file 2))) (runsOf (rowsBy Calls.step fresh (scriptIn wide h file 2)))))
+            ∙ ap length (sym (text-kept (scriptIn wide h file 2)) ∙ ap textOf (sym script))
 
         pub short : room < r .total → Short ≡ ranOf file room
         unfolding judged
-        short g = let k : room < length (textOf (scriptIn h file 2)) = rw (size, script) at g in rw (judges, script, none, lt-ltb _ _ k)
+        short g = let k : room < length (textOf (scriptIn wide h file 2)) = rw (size, script) at g in rw (judges, script, none, lt-ltb _ _ k)
 
         pub wrote : r .total ≤ room → Wrote (r .total) ≡ ranOf file room
         unfolding judged
-        wrote g = let k : length (textOf (scriptIn h file 2)) ≤ room = rw (size, script) at g in rw (judges, script, none, le-ltb _ _ k, size, script)
+        wrote g = let k : length (textOf (scriptIn wide h file 2)) ≤ room = rw (size, script) at g in rw (judges, script, none, le-ltb _ _ k, size, script)
 
         -- the rows that are kept have room in their tables, and their text in the buffer
         pub kept : length (r .codes) ≡ 4096 → r .count ≤ 4096
         kept q =
-            omega (arith, p .count none, length-take (r .count) (r .codes), ap length (p .codes none), length-map (rowsBy Calls.step fresh (scriptIn h file 2)) (λ (y : Row). slotOf (y .code)))
+            omega (arith, p .count none, length-take (r .count) (r .codes), ap length (p .codes none), length-map (rowsBy Calls.step fresh (scriptIn wide h file 2)) (λ (y : Row). slotOf (y .code)))
 
         pub room-for : r .total ≤ room → 16 + length (keptRows 1 (take (r .count) (r .codes)) (take (r .count) (r .runs))) ≤ room
         room-for g =

@@ -51,13 +51,13 @@ pub back : (z : ℤ) (r : Ran) → Small r → z ≡ numberOf r → toZ w64 (ofZ
 back z r h e = rw e (toZ-ofZ {w = w64} {z = numberOf r} (number-fits r h))
 
 -- ---- the numbers are small
-fault-most : (s : List ℕ) (k l : ℕ) → faultOf (scriptIn k s l) ≤ l + length s
+fault-most : (wide : Bool) (s : List ℕ) (k l : ℕ) → faultOf (scriptIn wide k s l) ≤ l + length s
 unfolding scriptIn faultOf
-fault-most [] k l = omega arith
-fault-most (b ∷ s) (suc k) l = omega (arith, fault-most s k l)
-fault-most (b ∷ s) zero l = go (lineOf (b ∷ s)) (λ n. fault-most s n (l + 1))
+fault-most wide [] k l = omega arith
+fault-most wide (b ∷ s) (suc k) l = omega (arith, fault-most wide s k l)
+fault-most wide (b ∷ s) zero l = go (lineOf wide (b ∷ s)) (λ n. fault-most wide s n (l + 1))
   where
-    go : (t : Line) → ((n : ℕ) → faultOf (scriptIn n s (l + 1)) ≤ l + 1 + length s) → faultOf (lineThen t l (λ x c n. next x c (scriptIn (n - 1) s (l + 1)))) ≤ l + suc (length s)
+    go : (t : Line) → ((n : ℕ) → faultOf (scriptIn wide n s (l + 1)) ≤ l + 1 + length s) → faultOf (lineThen t l (λ x c n. next x c (scriptIn wide (n - 1) s (l + 1)))) ≤ l + suc (length s)
     go (Reads x c n) ih = omega (arith, ih (n - 1))
     go NoLine ih = omega arith
 
@@ -65,8 +65,8 @@ script-most : (file : List ℕ) → faultOf (scriptOf file) ≤ 2 + length file
 unfolding scriptOf faultOf
 script-most file = go (headerOf file)
   where
-    go : (t : Header) → faultOf (headerThen t (λ h. scriptIn h file 2)) ≤ 2 + length file
-    go (Ends h) = fault-most file h 2
+    go : (t : Header) → faultOf (headerThen t (λ wide h. scriptIn wide h file 2)) ≤ 2 + length file
+    go (Ends wide h) = fault-most wide file h 2
     go NoHeader = omega arith
 
 pub small : (file : List ℕ) (room : ℕ) → room < 2 ^ 63 → Small (ranOf file room)

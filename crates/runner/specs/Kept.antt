@@ -9,7 +9,7 @@ use lib.ListN.{length, take}
 use Rattle.text.specs.Bytes.{bytes}
 use Rattle.text.specs.Decimal.{decimal}
 use Rattle.model.specs.declared.Code.{Code}
-use Rattle.model.specs.declared.Code.the-variants.{NoErr, Pending, Overflow, WContext, WState, Timeout, WrongParam, NoExs, Dlt, Released, Unsound}
+use Rattle.model.specs.declared.Code.the-variants.{NoErr, Pending, Overflow, WContext, WState, Timeout, WrongParam, IlUse, NoExs, Dlt, Released, Unsound}
 use Rattle.model.specs.State.{fresh}
 use Rattle.model.specs.Call.{step}
 use Rattle.runner.specs.declared.Played.{Played}
@@ -25,6 +25,7 @@ slotOf WContext = 10
 slotOf WState = 9
 slotOf Timeout = 8
 slotOf WrongParam = 7
+slotOf IlUse = 4
 slotOf NoExs = 3
 slotOf Dlt = 2
 slotOf Released = 1

@@ -47,6 +47,7 @@ fn slot(code: Code) -> u8
         Code::WState => 9,
         Code::Timeout => 8,
         Code::WrongParam => 7,
+        Code::IlUse => 4,
         Code::NoExs => 3,
         Code::Dlt => 2,
         Code::Released => 1,
@@ -94,10 +95,10 @@ fn put_row(buf: &mut [u8], at: usize, n: u32, v: u8, running: u8) -> usize
 }
 
 // ---- the calls, each worked once
-// The lines after the header, which has h bytes: their answers, or the first line that can't be read.
-fn play(file: &[u8], h: usize) -> Played
+// The lines after the header, which has h bytes and says whether they are wide: their answers, or the first line that can't be read.
+fn play(file: &[u8], wide: bool, h: usize) -> Played
     requires { ⌜ (17 ≤ h) × (h ≤ length (now file)) × (length (now file) ≤ 65536) ⌝ }
-    ensures { λ r. ⌜ Plays r (scriptIn h (now (file .entry)) 2) ⌝ }
+    ensures { λ r. ⌜ Plays r (scriptIn wide h (now (file .entry)) 2) ⌝ }
 {
     let mut codes = [0u8; 4096];
     let mut runs = [0u8; 4096];
@@ -107,18 +108,20 @@ fn play(file: &[u8], h: usize) -> Played
     let none = records::no_task();
     let mut tasks = [none; 25];
     let mut levels = [0u8; 744];
-    let mut waits = [0u8; 312];
+    let mut waits = [0u8; 504];
     let mut slices = [0u16; 31];
     let mut charges = [0u16; 31];
     let mut counts = [0u16; 13];
     let mut maxima = [0u16; 13];
+    let mut attributes = [0u8; 9];
+    let mut bits = [0u32; 9];
     let mut time: u32 = 0;
     while at < file.len() {
         let Line::Reads {
             context,
             call,
             next,
-        } = read_line(&file[at..])
+        } = read_line(&file[at..], wide)
         else {
             return Played {
                 fault: n + 2,
@@ -136,6 +139,8 @@ fn play(file: &[u8], h: usize) -> Played
             &mut charges,
             &mut counts,
             &mut maxima,
+            &mut attributes,
+            &mut bits,
             &mut time,
             context,
             call,
@@ -181,10 +186,10 @@ pub fn run(file: &[u8], answer: &mut [u8]) -> Ran
     if 65536 < file.len() {
         return Ran::TooLong;
     }
-    let Header::Ends { next } = read_header(file) else {
+    let Header::Ends { wide, next } = read_header(file) else {
         return Ran::Unreadable(1);
     };
-    let p = play(file, next);
+    let p = play(file, wide, next);
     let fault = p.fault;
     let count = p.count;
     let total = p.total;

@@ -1,5 +1,6 @@
 -- `runner::run` meets its contract: each of its answers is a law of Judging.
 use mathlib.Core.Path.{sym, _∙_}
+use native.Mathlib.Omega.{arith}
 use lib.ListN.{length}
 use Rattle.lines.proofs.Within.{header-in}
 use Rattle.lines.proofs.Long.{header-has}
@@ -14,8 +15,8 @@ returns c = let e = law.long (c .before .before .before .args .file .now) (lengt
 read-header-requires : tie.Need-read-header-requires
 read-header-requires c κs = search needs
 
-enum-known-next : tie.Need-enum-known-next
-enum-known-next c = search needs
+enum-known-wide : tie.Need-enum-known-wide
+enum-known-wide c = search needs
 
 enum-told : tie.Need-enum-told
 enum-told c = search needs
@@ -24,27 +25,27 @@ returns-2 : tie.Need-returns-2
 returns-2 c = let e = law.headless (c .before .before .before .before .before .before .args .file .now) (length (c .before .before .before .before .before .before .args .answer .now)) (c .before .before .before .if1 .left) (sym (c .before .before .read-header .ensures) ∙ c .enum-told .given .1) in (e, rw (← e))
 
 play-requires : tie.Need-play-requires
-play-requires c κs = let e = (sym (c .before .before .before .read-header .ensures) ∙ c .before .next .given .1) in
-    (rw e at (header-has (c .before .before .before .before .before .before .before .args .file .now)), rw e at (header-in (c .before .before .before .before .before .before .before .args .file .now)), c .before .before .before .before .if1 .left)
+play-requires c κs = let e = (sym (c .before .before .before .read-header .ensures) ∙ c .before .wide .given .1) in
+    (omega (arith, rw e at (header-has (c .before .before .before .before .before .before .before .args .file .now))), rw e at (header-in (c .before .before .before .before .before .before .before .args .file .now)), c .before .before .before .before .if1 .left)
 
 returns-3 : tie.Need-returns-3
-returns-3 c = let e = law.faulty (c .before .before .before .before .before .before .before .before .before .args .file .now) (length (c .before .before .before .before .before .before .before .before .before .args .answer .now)) (c .before .before .before .before .before .before .if1 .left) _ (sym (c .before .before .before .before .before .read-header .ensures) ∙ c .before .before .before .next .given .1) _ (c .before .play .ensures) (c .if2 .taken) in (e, rw (← e))
+returns-3 c = let e = law.faulty (c .before .before .before .before .before .before .before .before .before .args .file .now) (length (c .before .before .before .before .before .before .before .before .before .args .answer .now)) (c .before .before .before .before .before .before .if1 .left) _ _ (sym (c .before .before .before .before .before .read-header .ensures) ∙ c .before .before .before .wide .given .1) _ (c .before .play .ensures) (c .if2 .taken) in (e, rw (← e))
 
 returns-4 : tie.Need-returns-4
-returns-4 c = let e = law.short (c .before .before .before .before .before .before .before .before .before .before .args .file .now) (length (c .before .before .before .before .before .before .before .before .before .before .args .answer .now)) (c .before .before .before .before .before .before .before .if1 .left) _ (sym (c .before .before .before .before .before .before .read-header .ensures) ∙ c .before .before .before .before .next .given .1) _ (c .before .before .play .ensures) (c .before .if2 .left) (c .if3 .taken) in (e, rw (← e))
+returns-4 c = let e = law.short (c .before .before .before .before .before .before .before .before .before .before .args .file .now) (length (c .before .before .before .before .before .before .before .before .before .before .args .answer .now)) (c .before .before .before .before .before .before .before .if1 .left) _ _ (sym (c .before .before .before .before .before .before .read-header .ensures) ∙ c .before .before .before .before .wide .given .1) _ (c .before .before .play .ensures) (c .before .if2 .left) (c .if3 .taken) in (e, rw (← e))
 
 write-requires : tie.Need-write-requires
 write-requires c κs = (
-  law.kept (c .before .before .before .before .before .before .before .before .before .before .before .before .before .args .file .now) (length (c .before .before .before .before .before .before .before .before .before .before .before .before .before .args .answer .now)) (c .before .before .before .before .before .before .before .before .before .before .if1 .left) _ (sym (c .before .before .before .before .before .before .before .before .before .read-header .ensures) ∙ c .before .before .before .before .before .before .before .next .given .1) _ (c .before .before .before .before .before .play .ensures) (c .before .before .before .before .if2 .left) (search needs),
-  law.room-for (c .before .before .before .before .before .before .before .before .before .before .before .before .before .args .file .now) (length (c .before .before .before .before .before .before .before .before .before .before .before .before .before .args .answer .now)) (c .before .before .before .before .before .before .before .before .before .before .if1 .left) _ (sym (c .before .before .before .before .before .before .before .before .before .read-header .ensures) ∙ c .before .before .before .before .before .before .before .next .given .1) _ (c .before .before .before .before .before .play .ensures) (c .before .before .before .before .if2 .left) (c .before .before .before .if3 .left),
+  law.kept (c .before .before .before .before .before .before .before .before .before .before .before .before .before .args .file .now) (length (c .before .before .before .before .before .before .before .before .before .before .before .before .before .args .answer .now)) (c .before .before .before .before .before .before .before .before .before .before .if1 .left) _ _ (sym (c .before .before .before .before .before .before .before .before .before .read-header .ensures) ∙ c .before .before .before .before .before .before .before .wide .given .1) _ (c .before .before .before .before .before .play .ensures) (c .before .before .before .before .if2 .left) (search needs),
+  law.room-for (c .before .before .before .before .before .before .before .before .before .before .before .before .before .args .file .now) (length (c .before .before .before .before .before .before .before .before .before .before .before .before .before .args .answer .now)) (c .before .before .before .before .before .before .before .before .before .before .if1 .left) _ _ (sym (c .before .before .before .before .before .before .before .before .before .read-header .ensures) ∙ c .before .before .before .before .before .before .before .wide .given .1) _ (c .before .before .before .before .before .play .ensures) (c .before .before .before .before .if2 .left) (c .before .before .before .if3 .left),
 )
 
 same-length : tie.Need-same-length
 same-length c = search needs
 
 returns-5 : tie.Need-returns-5
-returns-5 c = let e = law.wrote (c .before .before .before .before .before .before .before .before .before .before .before .before .before .before .before .before .args .file .now) (length (c .before .before .before .before .before .before .before .before .before .before .before .before .before .before .before .before .args .answer .now)) (c .before .before .before .before .before .before .before .before .before .before .before .before .before .if1 .left) _ (sym (c .before .before .before .before .before .before .before .before .before .before .before .before .read-header .ensures) ∙ c .before .before .before .before .before .before .before .before .before .before .next .given .1) _ (c .before .before .before .before .before .before .before .before .play .ensures) (c .before .before .before .before .before .before .before .if2 .left) (c .before .before .before .before .before .before .if3 .left) in
-    (e, rw (← e, law.text (c .before .before .before .before .before .before .before .before .before .before .before .before .before .before .before .before .args .file .now) (length (c .before .before .before .before .before .before .before .before .before .before .before .before .before .before .before .before .args .answer .now)) (c .before .before .before .before .before .before .before .before .before .before .before .before .before .if1 .left) _ (sym (c .before .before .before .before .before .before .before .before .before .before .before .before .read-header .ensures) ∙ c .before .before .before .before .before .before .before .before .before .before .next .given .1) _ (c .before .before .before .before .before .before .before .before .play .ensures) (c .before .before .before .before .before .before .before .if2 .left)) (c .before .before .write .ensures))
+returns-5 c = let e = law.wrote (c .before .before .before .before .before .before .before .before .before .before .before .before .before .before .before .before .args .file .now) (length (c .before .before .before .before .before .before .before .before .before .before .before .before .before .before .before .before .args .answer .now)) (c .before .before .before .before .before .before .before .before .before .before .before .before .before .if1 .left) _ _ (sym (c .before .before .before .before .before .before .before .before .before .before .before .before .read-header .ensures) ∙ c .before .before .before .before .before .before .before .before .before .before .wide .given .1) _ (c .before .before .before .before .before .before .before .before .play .ensures) (c .before .before .before .before .before .before .before .if2 .left) (c .before .before .before .before .before .before .if3 .left) in
+    (e, rw (← e, law.text (c .before .before .before .before .before .before .before .before .before .before .before .before .before .before .before .before .args .file .now) (length (c .before .before .before .before .before .before .before .before .before .before .before .before .before .before .before .before .args .answer .now)) (c .before .before .before .before .before .before .before .before .before .before .before .before .before .if1 .left) _ _ (sym (c .before .before .before .before .before .before .before .before .before .before .before .before .read-header .ensures) ∙ c .before .before .before .before .before .before .before .before .before .before .wide .given .1) _ (c .before .before .before .before .before .before .before .before .play .ensures) (c .before .before .before .before .before .before .before .if2 .left)) (c .before .before .write .ensures))
 
 pub run-spec : {M : Type 1} → statement M
 run-spec =
@@ -52,7 +53,7 @@ run-spec =
     (tie.spec
     returns
     read-header-requires
-    enum-known-next
+    enum-known-wide
     enum-told
     returns-2
     play-requires

@@ -1,4 +1,4 @@
--- `lines::fields::read_fields` meets its contract: field by field, each in the part that begins with it.
+-- `lines::fields::read_fields` meets its contract: field by field, then the tail, each in the part that begins with it.
 -- It rests on the definition, and on what is read being within the bytes.
 use Prim.Native.Nat.{_+_, _≤_}
 use mathlib.Core.Path.{_≡_}
@@ -7,8 +7,9 @@ use lib.Dec.{ltb}
 use lib.ListN.{length, drop}
 use Rattle.text.specs.declared.number.Number.the-variants.{Digits}
 use Rattle.text.proofs.Places.{part-of}
-use Rattle.lines.specs.Fields.{commaField, lastField, fieldsOf}
-use Rattle.lines.proofs.Within.{got, after, comma-in, last-in}
+use Rattle.lines.specs.declared.fields.Tail.the-variants.{Two}
+use Rattle.lines.specs.Fields.{commaField, tailOf, fieldsOf}
+use Rattle.lines.proofs.Within.{got, after, comma-in, tail-in}
 use borrow.Author.Needs.{needs}
 use Rattle.lines.proofs.fields.read_fields.Statement.{statement}
 use Rattle.lines.proofs.fields.read_fields.Tie as tie
@@ -35,12 +36,12 @@ in2 c =
     after (a .s .now) (d .a .given .0 .1 .0) (c .b .given .0 .1 .0) (in1 d) (rw (e2 c) at (comma-in (ltb 1 (a .takes)) (drop (d .a .given .0 .1 .0) (a .s .now))))
 
 e3 : (c : tie.After-c) → let e = c .before .before .before .before .before in let d = e .before .before .before .before .before in let a = d .before .before .before .before .args in
-    lastField (ltb 2 (a .takes)) (drop (d .a .given .0 .1 .0 + e .b .given .0 .1 .0) (a .s .now)) ≡ Digits (c .c .given .0 .0) (c .c .given .0 .1 .0)
+    tailOf (a .wide) (a .takes) (drop (d .a .given .0 .1 .0 + e .b .given .0 .1 .0) (a .s .now)) ≡ Two (c .c .given .0 .0) (c .c .given .0 .1 .0) (c .c .given .0 .1 .1 .0)
 e3 c =
     let e = c .before .before .before .before .before in
     let d = e .before .before .before .before .before in
     let a = d .before .before .before .before .args in
-    got (part-of (lastField (ltb 2 (a .takes))) (a .s .now) (d .a .given .0 .1 .0 + e .b .given .0 .1 .0) (c .before .before .last-field .ensures)) (c .c .given .1)
+    got (part-of (tailOf (a .wide) (a .takes)) (a .s .now) (d .a .given .0 .1 .0 + e .b .given .0 .1 .0) (c .before .before .read-tail .ensures)) (c .c .given .1)
 
 comma-field-requires : tie.Need-comma-field-requires
 comma-field-requires c κs = search needs
@@ -83,17 +84,17 @@ returns-2 c =
 add-at : tie.Need-add-at
 add-at c = omega (arith, in2 (c .before), c .before .before .before .before .before .before .before .before .before .before .good)
 
-sub-last-field : tie.Need-sub-last-field
-sub-last-field c = in2 (c .before)
+sub-read-tail : tie.Need-sub-read-tail
+sub-read-tail c = in2 (c .before)
 
-part-last-field-start : tie.Need-part-last-field-start
-part-last-field-start c = in2 (c .before)
+part-read-tail-start : tie.Need-part-read-tail-start
+part-read-tail-start c = in2 (c .before)
 
-part-last-field-end : tie.Need-part-last-field-end
-part-last-field-end c = search needs
+part-read-tail-end : tie.Need-part-read-tail-end
+part-read-tail-end c = search needs
 
-last-field-requires : tie.Need-last-field-requires
-last-field-requires c κs = search needs
+read-tail-requires : tie.Need-read-tail-requires
+read-tail-requires c κs = search needs
 
 enum-known-c : tie.Need-enum-known-c
 enum-known-c c = search needs
@@ -107,15 +108,15 @@ returns-3 c =
     let e = c .before .before .before .before .before in
     let d = e .before .before .before .before .before in
     let a = d .before .before .before .before .args in
-    simp (e1 d) (simp (e2 e) (simp (got (part-of (lastField (ltb 2 (a .takes))) (a .s .now) (d .a .given .0 .1 .0 + e .b .given .0 .1 .0) (c .before .before .last-field .ensures)) (c .enum-told3 .given .1))))
+    simp (e1 d) (simp (e2 e) (simp (got (part-of (tailOf (a .wide) (a .takes)) (a .s .now) (d .a .given .0 .1 .0 + e .b .given .0 .1 .0) (c .before .before .read-tail .ensures)) (c .enum-told3 .given .1))))
 
-add-t14 : tie.Need-add-t14
-add-t14 c =
+add-t16 : tie.Need-add-t16
+add-t16 c =
     let e = c .before .before .before .before .before .before in
     let d = e .before .before .before .before .before in
     let a = d .before .before .before .before .args in
     let n = d .a .given .0 .1 .0 + e .b .given .0 .1 .0 in
-    omega (arith, after (a .s .now) n (c .before .c .given .0 .1 .0) (in2 e) (rw (e3 (c .before)) at (last-in (ltb 2 (a .takes)) (drop n (a .s .now)))), d .before .before .before .before .good)
+    omega (arith, after (a .s .now) n (c .before .c .given .0 .1 .1 .0) (in2 e) (rw (e3 (c .before)) at (tail-in (a .wide) (a .takes) (drop n (a .s .now)))), d .before .before .before .before .good)
 
 returns-4 : tie.Need-returns-4
 unfolding fieldsOf
@@ -137,12 +138,12 @@ read-fields-spec =
     enum-told-2
     returns-2
     add-at
-    sub-last-field
-    part-last-field-start
-    part-last-field-end
-    last-field-requires
+    sub-read-tail
+    part-read-tail-start
+    part-read-tail-end
+    read-tail-requires
     enum-known-c
     enum-told-3
     returns-3
-    add-t14
+    add-t16
     returns-4)

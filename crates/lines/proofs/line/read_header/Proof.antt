@@ -1,31 +1,10 @@
--- `lines::line::read_header` meets its contract: the header, then the line end in the part after it.
--- It rests on the definition, and on what is read being within the bytes.
-use Prim.Native.Nat.{_≤_}
-use mathlib.Core.Path.{_≡_}
-use mathlib.Core.Bool.{true}
-use native.Mathlib.Omega.{arith}
-use lib.ListN.{length, drop}
-use borrow.Author.Tests.{not-true, not-false}
-use Rattle.text.specs.Bytes.{bytes, begins}
-use Rattle.text.proofs.Begins.{begins-in}
-use Rattle.text.proofs.Places.{part-of}
-use Rattle.lines.specs.declared.fields.End.the-variants.{Closes}
-use Rattle.lines.specs.Fields.{endOf}
+-- `lines::line::read_header` meets its contract: six fields, or else five.
+-- It rests on the definition alone.
 use Rattle.lines.specs.Lines.{headerOf}
-use Rattle.lines.proofs.Within.{got, after, end-in}
+use Rattle.lines.proofs.Within.{got}
 use borrow.Author.Needs.{needs}
 use Rattle.lines.proofs.line.read_header.Statement.{statement}
 use Rattle.lines.proofs.line.read_header.Tie as tie
-
--- what is known after each part was read, and that it lies within the bytes
-e1 : (c : tie.Else1) → begins (c .before .before .before .before .args .s .now) (bytes "ctx,service,a,b,c") ≡ true
-e1 c = got (c .before .begins .ensures) (not-false _ (c .if1 .left))
-
-in1 : (c : tie.Else1) → 17 ≤ length (c .before .before .before .before .args .s .now)
-in1 c = begins-in (c .before .before .before .before .args .s .now) (bytes "ctx,service,a,b,c") (e1 c)
-
-e2 : (c : tie.After-next) → endOf (drop 17 (c .before .before .before .before .before .before .before .before .args .s .now)) ≡ Closes (c .next .given .0 .0)
-e2 c = got (part-of endOf (c .before .before .before .before .before .before .before .before .args .s .now) 17 (c .before .before .line-end .ensures)) (c .next .given .1)
 
 slice-aggregate-begins : tie.Need-slice-aggregate-begins
 slice-aggregate-begins c = search needs
@@ -33,40 +12,25 @@ slice-aggregate-begins c = search needs
 begins-requires : tie.Need-begins-requires
 begins-requires c κs = search needs
 
+slice-aggregate-headed : tie.Need-slice-aggregate-headed
+slice-aggregate-headed c = search needs
+
+headed-requires : tie.Need-headed-requires
+headed-requires c κs = search needs
+
 returns : tie.Need-returns
 unfolding headerOf
-returns c = simp (got (c .before .begins .ensures) (not-true _ (c .if1 .taken)))
+returns c = rw (got (c .before .before .before .begins .ensures) (c .before .before .if1 .taken)) (c .headed .ensures)
 
-sub-line-end : tie.Need-sub-line-end
-sub-line-end c = in1 c
+slice-aggregate-headed-2 : tie.Need-slice-aggregate-headed-2
+slice-aggregate-headed-2 c = search needs
 
-part-line-end-start : tie.Need-part-line-end-start
-part-line-end-start c = in1 c
-
-part-line-end-end : tie.Need-part-line-end-end
-part-line-end-end c = search needs
-
-line-end-requires : tie.Need-line-end-requires
-line-end-requires c κs = search needs
-
-enum-known-next : tie.Need-enum-known-next
-enum-known-next c = search needs
-
-enum-told : tie.Need-enum-told
-enum-told c = search needs
+headed-requires-2 : tie.Need-headed-requires-2
+headed-requires-2 c κs = search needs
 
 returns-2 : tie.Need-returns-2
 unfolding headerOf
-returns-2 c = simp (e1 (c .before .before .before .before)) (simp (got (part-of endOf (c .before .before .before .before .before .before .before .before .args .s .now) 17 (c .before .before .line-end .ensures)) (c .enum-told .given .1)))
-
-add-t10 : tie.Need-add-t10
-add-t10 c =
-    let s = c .before .before .before .before .before .before .before .before .before .args .s .now in
-    omega (arith, after s 17 (c .before .next .given .0 .0) (in1 (c .before .before .before .before .before)) (rw (e2 (c .before)) at (end-in (drop 17 s))), c .before .before .before .before .before .before .before .before .before .good)
-
-returns-3 : tie.Need-returns-3
-unfolding headerOf
-returns-3 c = simp (e1 (c .before .before .before .before .before)) (simp (e2 (c .before)))
+returns-2 c = rw (got (c .before .before .before .begins .ensures) (c .before .before .if1 .left)) (c .headed2 .ensures)
 
 pub read-header-spec : {M : Type 1} → statement M
 read-header-spec =
@@ -74,13 +38,9 @@ read-header-spec =
     (tie.spec
     slice-aggregate-begins
     begins-requires
+    slice-aggregate-headed
+    headed-requires
     returns
-    sub-line-end
-    part-line-end-start
-    part-line-end-end
-    line-end-requires
-    enum-known-next
-    enum-told
-    returns-2
-    add-t10
-    returns-3)
+    slice-aggregate-headed-2
+    headed-requires-2
+    returns-2)

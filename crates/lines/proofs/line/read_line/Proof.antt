@@ -6,7 +6,7 @@ use native.Mathlib.Omega.{arith}
 use lib.ListN.{length, drop}
 use Rattle.text.proofs.Places.{part-of}
 use Rattle.lines.specs.declared.names.Name.the-variants.{Known}
-use Rattle.lines.specs.declared.fields.Fields.the-variants.{Three}
+use Rattle.lines.specs.declared.fields.Fields.the-variants.{Four}
 use Rattle.lines.specs.declared.line.Letter.the-variants.{Is}
 use Rattle.lines.specs.Services.{nameOf}
 use Rattle.lines.specs.Fields.{fieldsOf}
@@ -32,11 +32,13 @@ in2 c =
     after s 2 (c .number .given .0 .1 .1 .0) (in1 (c .before .before .before .before .before)) (rw (e2 c) at (name-in (drop 2 s)))
 
 e3 : (c : tie.After-a) → let e = c .before .before .before .before .before in
-    fieldsOf (e .number .given .0 .1 .0) (drop (2 + e .number .given .0 .1 .1 .0) (c .before .before .before .before .before .before .before .before .before .before .before .before .before .before .args .s .now))
-    ≡ Three (c .a .given .0 .0) (c .a .given .0 .1 .0) (c .a .given .0 .1 .1 .0) (c .a .given .0 .1 .1 .1 .0)
+    let w = c .before .before .before .before .before .before .before .before .before .before .before .before .before .before .args in
+    fieldsOf (w .wide) (e .number .given .0 .1 .0) (drop (2 + e .number .given .0 .1 .1 .0) (w .s .now))
+    ≡ Four (c .a .given .0 .0) (c .a .given .0 .1 .0) (c .a .given .0 .1 .1 .0) (c .a .given .0 .1 .1 .1 .0) (c .a .given .0 .1 .1 .1 .1 .0)
 e3 c =
     let e = c .before .before .before .before .before in
-    got (part-of (fieldsOf (e .number .given .0 .1 .0)) (c .before .before .before .before .before .before .before .before .before .before .before .before .before .before .args .s .now) (2 + e .number .given .0 .1 .1 .0) (c .before .before .read-fields .ensures)) (c .a .given .1)
+    let w = c .before .before .before .before .before .before .before .before .before .before .before .before .before .before .args in
+    got (part-of (fieldsOf (w .wide) (e .number .given .0 .1 .0)) (w .s .now) (2 + e .number .given .0 .1 .1 .0) (c .before .before .read-fields .ensures)) (c .a .given .1)
 
 read-letter-requires : tie.Need-read-letter-requires
 read-letter-requires c κs = search needs
@@ -98,18 +100,19 @@ returns-3 : tie.Need-returns-3
 unfolding lineOf
 returns-3 c =
     let e = c .before .before .before .before .before in
-    let s = c .before .before .before .before .before .before .before .before .before .before .before .before .before .before .args .s .now in
-    simp (e1 (c .before .before .before .before .before .before .before .before .before .before)) (simp (e2 e) (simp (got (part-of (fieldsOf (e .number .given .0 .1 .0)) s (2 + e .number .given .0 .1 .1 .0) (c .before .before .read-fields .ensures)) (c .enum-told3 .given .1))))
+    let w = c .before .before .before .before .before .before .before .before .before .before .before .before .before .before .args in
+    simp (e1 (c .before .before .before .before .before .before .before .before .before .before)) (simp (e2 e) (simp (got (part-of (fieldsOf (w .wide) (e .number .given .0 .1 .0)) (w .s .now) (2 + e .number .given .0 .1 .1 .0) (c .before .before .read-fields .ensures)) (c .enum-told3 .given .1))))
 
 call-of-requires : tie.Need-call-of-requires
 call-of-requires c κs = search needs
 
-add-t15 : tie.Need-add-t15
-add-t15 c =
+add-t17 : tie.Need-add-t17
+add-t17 c =
     let e = c .before .before .before .before .before .before .before in
-    let s = c .before .before .before .before .before .before .before .before .before .before .before .before .before .before .before .before .args .s .now in
+    let w = c .before .before .before .before .before .before .before .before .before .before .before .before .before .before .before .before .args in
+    let s = w .s .now in
     let n = 2 + e .number .given .0 .1 .1 .0 in
-    omega (arith, after s n (c .before .before .a .given .0 .1 .1 .1 .0) (in2 e) (rw (e3 (c .before .before)) at (fields-in (e .number .given .0 .1 .0) (drop n s))), c .before .before .before .before .before .before .before .before .before .before .before .before .before .before .before .before .good)
+    omega (arith, after s n (c .before .before .a .given .0 .1 .1 .1 .1 .0) (in2 e) (rw (e3 (c .before .before)) at (fields-in (w .wide) (e .number .given .0 .1 .0) (drop n s))), c .before .before .before .before .before .before .before .before .before .before .before .before .before .before .before .before .good)
 
 returns-4 : tie.Need-returns-4
 unfolding lineOf
@@ -139,5 +142,5 @@ read-line-spec =
     enum-told-3
     returns-3
     call-of-requires
-    add-t15
+    add-t17
     returns-4)

@@ -1,6 +1,6 @@
 -- `lines::names::read_name` meets its contract: in each arm the key leaves one family of the table to look at, in the last none.
 -- It rests on the laws of the table's keys, which antt computes.
-use Rattle.lines.specs.Services.{tasks, system, semaphores, services, label, named, nameIn}
+use Rattle.lines.specs.Services.{tasks, system, semaphores, events, services, label, named, nameIn}
 use Rattle.lines.proofs.Table.{keyed, at-family, no-family}
 use borrow.Author.Needs.{needs}
 use Rattle.lines.proofs.names.read_name.Statement.{statement}
@@ -27,24 +27,31 @@ named-requires-2 c κs = search needs
 semaphore-name-requires : tie.Need-semaphore-name-requires
 semaphore-name-requires c κs = search needs
 
+event-name-requires : tie.Need-event-name-requires
+event-name-requires c κs = search needs
+
 returns : tie.Need-returns
-unfolding keyed nameIn services tasks system semaphores label
+unfolding keyed nameIn services tasks system semaphores events label
 returns c = at-family (c .before .before .before .before .args .s .now) (c .before .before .byte-at .ensures) (c .before .match .keys1) (c .task-name .ensures)
 
 returns-2 : tie.Need-returns-2
-unfolding keyed nameIn services tasks system semaphores label named
+unfolding keyed nameIn services tasks system semaphores events label named
 returns-2 c = at-family (c .before .before .before .before .before .args .s .now) (c .before .before .before .byte-at .ensures) (c .before .before .match .keys2) (c .named .ensures)
 
 returns-3 : tie.Need-returns-3
-unfolding keyed nameIn services tasks system semaphores label named
+unfolding keyed nameIn services tasks system semaphores events label named
 returns-3 c = at-family (c .before .before .before .before .before .args .s .now) (c .before .before .before .byte-at .ensures) (c .before .before .match .keys3) (c .named2 .ensures)
 
 returns-4 : tie.Need-returns-4
-unfolding keyed nameIn services tasks system semaphores label
+unfolding keyed nameIn services tasks system semaphores events label
 returns-4 c = at-family (c .before .before .before .before .args .s .now) (c .before .before .byte-at .ensures) (c .before .match .keys4) (c .semaphore-name .ensures)
 
 returns-5 : tie.Need-returns-5
-returns-5 c = no-family (c .before .before .before .args .s .now) _ (c .before .byte-at .ensures) (c .match .rest)
+unfolding keyed nameIn services tasks system semaphores events label
+returns-5 c = at-family (c .before .before .before .before .args .s .now) (c .before .before .byte-at .ensures) (c .before .match .keys5) (c .event-name .ensures)
+
+returns-6 : tie.Need-returns-6
+returns-6 c = no-family (c .before .before .before .args .s .now) _ (c .before .byte-at .ensures) (c .match .rest)
 
 pub read-name-spec : {M : Type 1} → statement M
 read-name-spec =
@@ -57,8 +64,10 @@ read-name-spec =
     slice-aggregate-named-2
     named-requires-2
     semaphore-name-requires
+    event-name-requires
     returns
     returns-2
     returns-3
     returns-4
-    returns-5)
+    returns-5
+    returns-6)
