@@ -82,7 +82,14 @@ impl Kernel {
         Ok(NO_ERR)
     }
 
-    pub(crate) fn event_wait(&mut self, here: bool, number: u32, pattern: u32, mode: u32, timeout: u32) -> Result<(i32, u32), i32> {
+    pub(crate) fn event_wait(
+        &mut self,
+        here: bool,
+        number: u32,
+        pattern: u32,
+        mode: u32,
+        timeout: u32,
+    ) -> Result<(i32, u32), i32> {
         let asked = asked(pattern, mode)?;
         in_range(timeout, 1, FOREVER)?;
         let f = self.flag(number)?;

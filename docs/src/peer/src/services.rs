@@ -118,7 +118,8 @@ impl Call {
 
     /// The line of a list that asks for this call, in a list with so many numbers on every line.
     pub fn line(&self, width: usize) -> String {
-        let mut line = format!("{},{}", if self.context == T { 'T' } else { 'I' }, SERVICES[self.service as usize].name);
+        let mut line =
+            format!("{},{}", if self.context == T { 'T' } else { 'I' }, SERVICES[self.service as usize].name);
         for (place, number) in [self.a, self.b, self.c, self.d].into_iter().take(width).enumerate() {
             line.push(',');
             if place < self.numbers() {

@@ -20,7 +20,8 @@ const BITS_AT: usize = ATTRIBUTES_AT + FLAG_PLACES;
 const TIME_AT: usize = BITS_AT + FLAG_PLACES;
 
 /// Where the tables begin, which follow the tasks.
-pub const TABLES: [usize; 8] = [LEVELS_AT, WAITS_AT, SLICES_AT, CHARGES_AT, COUNTS_AT, MAXIMA_AT, ATTRIBUTES_AT, BITS_AT];
+pub const TABLES: [usize; 8] =
+    [LEVELS_AT, WAITS_AT, SLICES_AT, CHARGES_AT, COUNTS_AT, MAXIMA_AT, ATTRIBUTES_AT, BITS_AT];
 
 /// How many numbers a State holds.
 pub const SLOTS: usize = TIME_AT + 1;

@@ -100,7 +100,10 @@ fn state_differs(state: &State, last: &Call) -> Option<String> {
     }
     let theirs = library_call(state, last);
     if !sound && (theirs.code, theirs.running, theirs.value) != (UNSOUND, 0, 0) {
-        return Some(format!("unsound, but the library answers ({}, {}, {})", theirs.code, theirs.running, theirs.value));
+        return Some(format!(
+            "unsound, but the library answers ({}, {}, {})",
+            theirs.code, theirs.running, theirs.value
+        ));
     }
     unlike(&layout::call(state, *last), &theirs)
 }

@@ -88,7 +88,8 @@ T,tn_event_wait_polling,1,1,0,
 T,tn_event_clear,1,4294967295,,
 T,tn_event_wait,1,0,0,1
 ";
-const HELD_ANSWER: &str = "n,code,running\r\n1,0,0\r\n2,0,1\r\n3,1,0\r\n4,0,0\r\n5,0,1\r\n6,-4,1\r\n7,0,1\r\n8,-5,1\r\n";
+const HELD_ANSWER: &str =
+    "n,code,running\r\n1,0,0\r\n2,0,1\r\n3,1,0\r\n4,0,0\r\n5,0,1\r\n6,-4,1\r\n7,0,1\r\n8,-5,1\r\n";
 
 #[test]
 fn a_hold_as_a_flag_wait() {

@@ -56,10 +56,12 @@ mod entry {
     }
 
     fn start() -> Served {
-        let words = std::env::var("GRITGARLAND_SERVE").expect("GRITGARLAND_SERVE names the command that serves the library");
+        let words =
+            std::env::var("GRITGARLAND_SERVE").expect("GRITGARLAND_SERVE names the command that serves the library");
         let mut words = words.split(' ');
         let mut command = Command::new(words.next().unwrap_or_default());
-        let mut child = command.args(words).stdin(Stdio::piped()).stdout(Stdio::piped()).spawn().expect("the library is served");
+        let mut child =
+            command.args(words).stdin(Stdio::piped()).stdout(Stdio::piped()).spawn().expect("the library is served");
         let to = child.stdin.take().expect("its standard input");
         let from = BufReader::with_capacity(1 << 17, child.stdout.take().expect("its standard output"));
         Served { child, to, from }
