@@ -1,7 +1,8 @@
--- The bounds are reached: a file whose first call starts task 10 and whose other calls are refused has 3,639 calls and an answer of 42,576 bytes.
+-- The bounds are reached: a file whose first call starts task 10 and whose other calls are refused has 3,639 calls and an answer of 42,576 bytes,
+-- and one of refused calls of six fields has 3,448 calls.
 -- It rests on Rows, and goes line by line.
 use mathlib.Core.Path.{_≡_, refl, ap, _∙_}
-use mathlib.Core.Bool.{false}
+use mathlib.Core.Bool.{Bool, true, false}
 use mathlib.Core.List.{List, [], _∷_, _++_}
 use Prim.Native.Nat.{ℕ, zero, suc, _+_, _*_, _≤_}
 use native.Mathlib.Omega.{arith}
@@ -28,14 +29,14 @@ use Rattle.lines.specs.declared.line.Line.the-variants.{Reads}
 use Rattle.lines.specs.declared.line.Header.the-variants.{Ends}
 use Rattle.lines.specs.declared.fields.End.the-variants.{Closes}
 use Rattle.lines.specs.Services.{tasks, system, semaphores, events, services, service, label, callOf, nameIn, nameOf}
-use Rattle.lines.specs.Fields.{fieldOf, commaField, endOf, lastField, narrowTail, tailOf, fieldsOf}
+use Rattle.lines.specs.Fields.{fieldOf, commaField, endOf, lastField, narrowTail, wideTail, tailOf, fieldsOf}
 use Rattle.lines.specs.Lines.{letterOf, lineOf, headed, headerOf}
 use Rattle.runner.specs.declared.Ran.the-variants.{Wrote}
 use Rattle.runner.specs.Script.{Script, done, next, scriptIn, scriptOf, faultOf}
 use Rattle.runner.specs.Rows.{Row, rowsBy, rowsOf, signed, rowsText, textOf}
 use Rattle.runner.specs.Outcome.{judged, ranOf}
 use Rattle.runner.proofs.Scripts.{script-drop, script-end, script-next}
-use Rattle.longest.specs.Statement.{refusals, longest, Reached}
+use Rattle.longest.specs.Statement.{refusal, refusals, longest, Reached, longestWide, WideReached}
 use Rattle.longest.proofs.Rows.{digitsFrom, digits-all, row-text, next-rows}
 
 -- ---- the script
@@ -43,13 +44,19 @@ feed : (rest : List ℕ) → endOf (10 ∷ rest) ≡ Closes 1
 unfolding endOf begins
 feed rest = rw (ne-eqb (suc (length rest)) 0 (λ e. omega arith))
 
-exit-line : (rest : List ℕ) → lineOf false (bytes "I,tn_task_exit,,,\n" ++ rest) ≡ Reads I TaskExit 18
-unfolding lineOf letterOf nameOf nameIn services tasks system semaphores events label begins callOf service fieldsOf tailOf narrowTail commaField lastField fieldOf
-exit-line rest = simp (feed rest)
+abbrev size : Bool → ℕ
+size false = 17
+size true = 18
 
-last-line : lineOf false (bytes "I,tn_task_exit,,,") ≡ Reads I TaskExit 17
-unfolding lineOf letterOf nameOf nameIn services tasks system semaphores events label begins callOf service fieldsOf tailOf narrowTail commaField lastField fieldOf endOf
-last-line = refl
+exit-line : (wide : Bool) (rest : List ℕ) → lineOf wide (refusal wide ++ (10 ∷ rest)) ≡ Reads I TaskExit (suc (size wide))
+unfolding lineOf letterOf nameOf nameIn services tasks system semaphores events label begins callOf service fieldsOf tailOf narrowTail wideTail commaField lastField fieldOf
+exit-line false rest = simp (feed rest)
+exit-line true rest = simp (feed rest)
+
+last-line : (wide : Bool) → lineOf wide (refusal wide) ≡ Reads I TaskExit (size wide)
+unfolding lineOf letterOf nameOf nameIn services tasks system semaphores events label begins callOf service fieldsOf tailOf narrowTail wideTail commaField lastField fieldOf endOf
+last-line false = refl
+last-line true = refl
 
 create-line : (rest : List ℕ) → lineOf false (bytes "T,tn_task_create,10,1,1\n" ++ rest) ≡ Reads T (TaskCreate 10 1 1) 24
 unfolding lineOf letterOf nameOf nameIn services tasks system semaphores events label begins callOf service fieldsOf tailOf narrowTail commaField lastField fieldOf numberOf isDigit digits valueAfter ended
@@ -63,10 +70,12 @@ unfoldable exits : ℕ → Script
 exits zero = done
 exits (suc n) = next I TaskExit (exits n)
 
-script-exits : (n l : ℕ) → scriptIn false 0 (refusals n) l ≡ exits (suc n)
+script-exits : (wide : Bool) (n l : ℕ) → scriptIn wide 0 (refusals wide n) l ≡ exits (suc n)
 unfolding refusals exits
-script-exits zero l = script-next false (bytes "I,tn_task_exit,,,") 0 l I TaskExit 17 (omega arith) (omega arith) last-line ∙ ap (next I TaskExit) (script-end false [] 0 (l + 1) (omega arith))
-script-exits (suc n) l = script-next false (bytes "I,tn_task_exit,,,\n" ++ refusals n) 0 l I TaskExit 18 (omega arith) (omega arith) (exit-line (refusals n)) ∙ ap (next I TaskExit) (script-exits n (l + 1))
+script-exits false zero l = script-next false (refusal false) 0 l I TaskExit 17 (omega arith) (omega arith) (last-line false) ∙ ap (next I TaskExit) (script-end false [] 0 (l + 1) (omega arith))
+script-exits true zero l = script-next true (refusal true) 0 l I TaskExit 18 (omega arith) (omega arith) (last-line true) ∙ ap (next I TaskExit) (script-end true [] 0 (l + 1) (omega arith))
+script-exits false (suc n) l = script-next false (refusal false ++ (10 ∷ refusals false n)) 0 l I TaskExit 18 (omega arith) (omega arith) (exit-line false (refusals false n)) ∙ ap (next I TaskExit) (script-exits false n (l + 1))
+script-exits true (suc n) l = script-next true (refusal true ++ (10 ∷ refusals true n)) 0 l I TaskExit 19 (omega arith) (omega arith) (exit-line true (refusals true n)) ∙ ap (next I TaskExit) (script-exits true n (l + 1))
 
 module _ (rest : List ℕ) where
   abbrev starts : List ℕ
@@ -81,7 +90,7 @@ module _ (rest : List ℕ) where
 
 script : scriptOf longest ≡ next T (TaskCreate 10 1 1) (exits 3638)
 unfolding longest
-script = starts-script (refusals 3637) ∙ ap (next T (TaskCreate 10 1 1)) (script-exits 3637 3)
+script = starts-script (refusals false 3637) ∙ ap (next T (TaskCreate 10 1 1)) (script-exits false 3637 3)
 
 exits-read : (n : ℕ) → faultOf (exits n) ≡ 0
 unfolding faultOf exits
@@ -119,32 +128,32 @@ width-refusal : length (signed (number WContext)) ≡ 2
 unfolding decimal decimalIn
 width-refusal = refl
 
--- a state in which task 10 runs stays, through any number of refused exits
-module _ (s : State) (k : Sound s) (ten : running s ≡ 10) where
+-- a state in which task r runs stays, through any number of refused exits
+module _ (s : State) (k : Sound s) (r : ℕ) (runs : running s ≡ r) where
   abbrev again : Row
-  again = record { code = WContext; running = 10 }
+  again = record { code = WContext; running = r }
 
   exits-rows : (m : ℕ) → rowsBy call s (exits (suc m)) ≡ again ∷ rowsBy call s (exits m)
   unfolding exits
-  exits-rows m = next-rows s I TaskExit (exits m) k ∙ rw (exit-answer s, ten)
+  exits-rows m = next-rows s I TaskExit (exits m) k ∙ rw (exit-answer s, runs)
 
   exits-count : (m : ℕ) → length (rowsBy call s (exits m)) ≡ m
   unfolding exits rowsBy
   exits-count zero = refl
   exits-count (suc m) = ap length (exits-rows m) ∙ ap suc (exits-count m)
 
-  exits-text : (m n : ℕ) → length (rowsText n (rowsBy call s (exits m))) ≡ digitsFrom n m + 8 * m
+  exits-text : length (decimal r) ≡ 2 → (m n : ℕ) → length (rowsText n (rowsBy call s (exits m))) ≡ digitsFrom n m + 8 * m
   unfolding exits rowsBy rowsText digitsFrom
-  exits-text zero n = omega arith
-  exits-text (suc m) n =
+  exits-text two zero n = omega arith
+  exits-text two (suc m) n =
       ap (λ (rows : List Row). length (rowsText n rows)) (exits-rows m)
-      ∙ omega (arith, row-text n again (rowsBy call s (exits m)), width-ten, width-refusal, exits-text m (n + 1))
+      ∙ omega (arith, row-text n again (rowsBy call s (exits m)), two, width-refusal, exits-text two m (n + 1))
 
 made-rows : (m : ℕ) → rowsOf (next T (TaskCreate 10 1 1) (exits m)) ≡ record { code = NoErr; running = 10 } ∷ rowsBy call made (exits m)
 made-rows m = next-rows fresh T (TaskCreate 10 1 1) (exits m) fresh-is-sound ∙ rw (made-answer .0, made-answer .1)
 
 made-count : (m : ℕ) → length (rowsOf (next T (TaskCreate 10 1 1) (exits m))) ≡ suc m
-made-count m = ap length (made-rows m) ∙ ap suc (exits-count made made-sound made-runs m)
+made-count m = ap length (made-rows m) ∙ ap suc (exits-count made made-sound 10 made-runs m)
 
 made-text : (m : ℕ) → length (textOf (next T (TaskCreate 10 1 1) (exits m))) ≡ 23 + digitsFrom 1 (suc m) + 8 * m
 unfolding textOf digitsFrom
@@ -153,18 +162,20 @@ made-text m =
     let more = rowsBy call made (exits m) in
     length-append (bytes "n,code,running\r\n") (rowsText 1 (rowsOf (next T (TaskCreate 10 1 1) (exits m))))
     ∙ ap (λ (rows : List Row). 16 + length (rowsText 1 rows)) (made-rows m)
-    ∙ omega (arith, row-text 1 first more, width-ten, width-done, exits-text made made-sound made-runs m 2)
+    ∙ omega (arith, row-text 1 first more, width-ten, width-done, exits-text made made-sound 10 made-runs width-ten m 2)
 
 -- ---- the outcome
-refusals-length : (n : ℕ) → length (refusals n) ≡ 18 * n + 17
+refusals-length : (wide : Bool) (n : ℕ) → length (refusals wide n) ≡ suc (size wide) * n + size wide
 unfolding refusals
-refusals-length zero = refl
-refusals-length (suc n) = omega (arith, length-append (bytes "I,tn_task_exit,,,\n") (refusals n), refusals-length n)
+refusals-length false zero = refl
+refusals-length true zero = refl
+refusals-length false (suc n) = omega (arith, length-append (refusal false) (10 ∷ refusals false n), refusals-length false n)
+refusals-length true (suc n) = omega (arith, length-append (refusal true) (10 ∷ refusals true n), refusals-length true n)
 
 longest-fits : length longest ≤ 65536
 unfolding longest
 longest-fits =
-    omega (arith, length-append (bytes "ctx,service,a,b,c\n") (bytes "T,tn_task_create,10,1,1\n" ++ refusals 3637), length-append (bytes "T,tn_task_create,10,1,1\n") (refusals 3637), refusals-length 3637)
+    omega (arith, length-append (bytes "ctx,service,a,b,c\n") (bytes "T,tn_task_create,10,1,1\n" ++ refusals false 3637), length-append (bytes "T,tn_task_create,10,1,1\n") (refusals false 3637), refusals-length false 3637)
 
 longest-reads : faultOf (scriptOf longest) ≡ 0
 unfolding faultOf
@@ -179,3 +190,20 @@ wrote file n room fits reads size enough = rw (le-ltb 65536 (length file) fits, 
 
 pub reached : Reached
 reached = (ap (λ (p : Script). length (rowsOf p)) script ∙ made-count 3638, wrote longest 42576 42576 longest-fits longest-reads longest-text (omega arith))
+
+-- ---- six fields
+wide-header : (rest : List ℕ) → headerOf (bytes "ctx,service,a,b,c,d\n" ++ rest) ≡ Ends true 20
+unfolding headerOf headed begins endOf
+wide-header rest = simp (feed rest)
+
+wide-script : scriptOf longestWide ≡ exits 3448
+unfolding scriptOf longestWide
+wide-script = rw (wide-header (refusals true 3447)) (script-drop true 20 longestWide 2 ∙ script-exits true 3447 2)
+
+pub wide-reached : WideReached
+unfolding longestWide
+wide-reached = (
+  omega (arith, length-append (bytes "ctx,service,a,b,c,d\n") (refusals true 3447), refusals-length true 3447),
+  wide-header (refusals true 3447),
+  ap (λ (p : Script). length (rowsOf p)) wide-script ∙ exits-count fresh fresh-is-sound (running fresh) refl 3448,
+)
