@@ -1,2 +1,4 @@
+pub mod Words
 pub mod Table
+pub mod Flags
 pub mod Damage

@@ -1,0 +1,54 @@
+-- The words in which the bench tables are written: codes, and a call from a task, from an interrupt, or by the tick; and what the rows
+-- compute through. They rest on the form of a row in specs/Bench.
+use mathlib.Core.List.{List}
+use Prim.Native.Nat.{ℕ}
+use lib.IntN.{ℤ, pos}
+use Rattle.model.specs.declared.Context.the-variants as from
+use Rattle.model.specs.declared.Call.{Call}
+use Rattle.model.specs.declared.Call.the-variants.{TickIntProcessing}
+use Rattle.model.specs.Row
+use Rattle.model.specs.Flag
+use Rattle.model.specs.Task
+use Rattle.model.specs.State
+use Rattle.model.specs.State.{fresh}
+use Rattle.model.specs.Plan
+use Rattle.model.specs.Service
+use Rattle.model.specs.Effect
+use Rattle.model.specs.Test
+use Rattle.model.specs.Call as Calls
+use Rattle.model.specs.Code.{waitNumber}
+use Rattle.model.specs.Bench.{Step, asks, gets, Case, listing, holds, allHold}
+
+abbrev pub ok : ℤ
+ok = pos 0
+
+abbrev pub pending : ℤ
+pending = pos 1
+
+abbrev pub minus : ℕ → ℤ
+minus n = waitNumber n
+
+abbrev pub task : Call → ℤ → ℕ → Step
+task a v t = asks from.T a v t
+
+abbrev pub int : Call → ℤ → ℕ → Step
+int a v t = asks from.I a v t
+
+-- a tick, and the task that runs after it
+abbrev pub ticks : ℕ → Step
+ticks t = asks from.I TickIntProcessing ok t
+
+abbrev pub from0 : List Step → Case
+from0 steps = record { start = fresh; steps = steps }
+
+-- a call with the value that it gives
+abbrev pub taskGets : Call → ℤ → ℕ → ℕ → Step
+taskGets a v t b = gets from.T a v t b
+
+abbrev pub intGets : Call → ℤ → ℕ → ℕ → Step
+intGets a v t b = gets from.I a v t b
+
+-- what the rows compute through
+unfoldable pub opened : ℕ
+unfolding allHold holds listing Calls.call Calls.step Calls.planned Calls.plan Calls.eventPlan Effect.carried Effect.ticked Effect.lapsed Effect.charged Effect.chargedLevel Effect.deleted Effect.toldFlag Effect.toldAll Effect.stopped State.running State.moved State.counted State.flagged State.sliced State.rotated Row.place Row.gap Row.joined Row.left Row.turned Row.row Row.withRow Row.leftRow Row.joinedRow Row.relisted Row.bestFrom Task.levelOf Task.rowOf Task.aged Task.told Flag.areKept Flag.isMet Flag.withBits Flag.withoutBits Flag.bitsLeft Flag.flagRow Test.below Test.everyRow Test.occ Test.zeros Test.listsOnly Test.isFiled Test.listsExactly Test.isTaskSound Test.isRateSound Test.isCountSound Test.isFlagSound Test.isUnmet Test.isSound Plan.within Service.create Service.delete Service.activate Service.exit Service.terminate Service.suspend Service.resume Service.sleep Service.wakeup Service.releaseWait Service.wanted Service.changePriority Service.tsliceTicks Service.tick Service.semCreate Service.semDelete Service.signal Service.acquire Service.polling Service.eventCreate Service.eventDelete Service.meetsFirst Service.eventSet Service.eventClear Service.isOccupied Service.taken Service.eventWait Service.eventPoll
+opened = 0
