@@ -1,5 +1,5 @@
 -- The tables that an effect changes, as a state in which the others stand empty: what the functions here speak of.
--- Laws in proofs/Parts carry what they say over to the whole state.
+-- The laws in carry/proofs/Local take what they say over to the whole state.
 use mathlib.Core.List.{List, [], _∷_}
 use Prim.Native.Nat.{ℕ, zero, suc}
 use lib.ListN.{getD}
