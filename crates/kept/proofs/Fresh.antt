@@ -49,7 +49,7 @@ lists-nobody ls n key e z free = record {
 }
 
 -- ---- what is read in a table of one value
-reads {ℓ} : {A : Type ℓ} (n : ℕ) (a : A) (i : ℕ) → getD (replicate n a) i a ≡ a
+pub reads {ℓ} : {A : Type ℓ} (n : ℕ) (a : A) (i : ℕ) → getD (replicate n a) i a ≡ a
 reads n a i = ⊎-elim
     (λ (h : i < n). getD-replicate n i a a h)
     (λ (h : n ≤ i). List·getD-eq-default (replicate n a) a (rw (length-replicate n a) h))

@@ -6,40 +6,20 @@ use Prim.Native.Nat.{ℕ, _*_, _-_, _≤_}
 use lib.Dec.{T, lit≤}
 use Rattle.model.specs.declared.State.{State}
 use Rattle.model.specs.declared.Context.{Context}
-use Rattle.model.specs.declared.Context.the-variants as from
 use Rattle.model.specs.declared.Call.{Call}
-use Rattle.model.specs.declared.Call.the-variants.{TaskCreate, TaskActivate, TaskTerminate, TaskSuspend, TaskResume, TaskChangePriority, SysTsliceTicks, TickIntProcessing, SemCreate, SemIsignal, SemAcquire}
-use Rattle.model.specs.Row
-use Rattle.model.specs.Task
-use Rattle.model.specs.State
+use Rattle.model.specs.declared.Call.the-variants.{TaskCreate, TaskActivate, TaskTerminate, TaskSuspend, TaskResume, TaskChangePriority, SysTsliceTicks, SemCreate, SemIsignal, SemAcquire}
 use Rattle.model.specs.Task.{isRunnable}
 use Rattle.model.specs.State.{fresh, task, slice, charge, level}
-use Rattle.model.specs.Plan
-use Rattle.model.specs.Service
-use Rattle.model.specs.Effect
-use Rattle.model.specs.Call as Calls
 use Rattle.model.specs.Sound.{Sound}
+use Rattle.model.proofs.Words.{opened}
 use Rattle.kept.specs.Statements.{reached}
 use Rattle.kept.proofs.Kept.{fresh-is-sound, reached-is-sound}
 use Rattle.turns.specs.Kind.{terminate, setSlice}
 use Rattle.turns.specs.Statements.{placeIn, releases, Ended, HoldsBy, charges, Each, none, each, FirstBy, StaysRunnable, NotTerminated, KeepsPriority, SliceNotSet}
+use Rattle.turns.proofs.Words.{byTask, byInterrupt, aTick}
 use Rattle.turns.proofs.Served.{waiters-are-served}
 use Rattle.turns.proofs.Turns.{turns-come-round}
 use Rattle.turns.proofs.Seen.{seenFirst, seen-first, seenOver, seen-over, noneIs, none-does}
-
--- what the calls below compute through
-unfoldable pub opened : ℕ
-unfolding reached Calls.step Calls.planned Calls.plan Effect.carried Effect.ticked Effect.lapsed Effect.charged Effect.chargedLevel Effect.stopped State.running State.moved State.counted State.sliced State.rotated Row.place Row.gap Row.joined Row.left Row.turned Row.row Row.withRow Row.leftRow Row.joinedRow Row.relisted Row.bestFrom Task.levelOf Task.rowOf Task.aged Plan.within Service.create Service.activate Service.terminate Service.suspend Service.resume Service.wanted Service.changePriority Service.tsliceTicks Service.tick Service.semCreate Service.signal Service.acquire
-opened = 0
-
-abbrev byTask : Call → Context × Call
-byTask a = (from.T, a)
-
-abbrev byInterrupt : Call → Context × Call
-byInterrupt a = (from.I, a)
-
-abbrev aTick : Context × Call
-aTick = byInterrupt TickIntProcessing
 
 -- ---- A: tasks 1 and 2 wait on semaphore 1, in that order
 unfoldable pub waiting : List (Context × Call)
@@ -57,17 +37,17 @@ signals = byInterrupt (SemIsignal 1) ∷ aTick ∷ byInterrupt (SemIsignal 1) �
 
 -- 2 holds its resource by the second release
 pub second : HoldsBy 1 2 2 two signals
-unfolding opened two waiting signals releases
+unfolding opened reached two waiting signals releases
 second = waiters-are-served two signals 1 2 2 two-sound (lit≤ tt) (lit≤ tt) refl refl (lit≤ tt)
 
 -- and not by the first
 pub not-before : HoldsBy 1 2 1 two signals → ⊥
-unfolding opened two waiting signals seenOver
+unfolding opened reached two waiting signals seenOver
 not-before d = seen-over (lit≤ tt) d
 
 -- it is a release that ends its wait, with 0
 pub served-second : Ended (reached two signals) 2 0
-unfolding opened two waiting signals
+unfolding opened reached two waiting signals
 served-second = record { over = refl; code = refl }
 
 -- ---- B: tasks 1, 2 and 3 are the runnable tasks of level 6, in that order; its slice is 2 and its charge 0
@@ -86,17 +66,17 @@ ticks = aTick ∷ aTick ∷ aTick ∷ aTick ∷ []
 
 -- 3, at place 3, is first by the fourth charged tick
 pub third : FirstBy 6 3 4 three ticks
-unfolding opened three runnable ticks charges noneIs
+unfolding opened reached three runnable ticks charges noneIs
 third = turns-come-round three ticks 6 3 3 2 three-sound tt refl refl refl (lit≤ tt)
     (each tt (each tt (each tt (each tt none)))) (none-does (terminate 3) ticks three tt) (each refl (each refl (each refl (each refl none)))) (none-does (setSlice 6) ticks three tt) (lit≤ tt)
 
 pub charge-none : charge three 6 ≡ 0
-unfolding opened three runnable
+unfolding opened reached three runnable
 charge-none = refl
 
 -- and not by the third
 pub not-by-third : FirstBy 6 3 3 three ticks → ⊥
-unfolding opened three runnable ticks seenFirst
+unfolding opened reached three runnable ticks seenFirst
 not-by-third d = seen-first d
 
 -- ---- each proviso is needed: with any three of them alone the statement is false
@@ -128,7 +108,7 @@ suspends : List (Context × Call)
 suspends = byTask (TaskSuspend 2) ∷ byTask (TaskResume 2) ∷ aTick ∷ aTick ∷ []
 
 pub needs-runnable : TurnsGiven Alive Prior Unset → ⊥
-unfolding opened three runnable suspends charges noneIs seenFirst
+unfolding opened reached three runnable suspends charges noneIs seenFirst
 needs-runnable claim = seen-first (claim three suspends 6 2 2 2 three-sound tt refl refl refl (lit≤ tt)
     (none-does (terminate 2) suspends three tt) (each refl (each refl (each refl (each refl none)))) (none-does (setSlice 6) suspends three tt) (lit≤ tt))
 
@@ -137,7 +117,7 @@ terminates : List (Context × Call)
 terminates = byTask (TaskActivate 2) ∷ byTask (TaskTerminate 2) ∷ aTick ∷ aTick ∷ []
 
 pub needs-alive : TurnsGiven Runnable Prior Unset → ⊥
-unfolding opened three runnable terminates charges noneIs seenFirst
+unfolding opened reached three runnable terminates charges noneIs seenFirst
 needs-alive claim = seen-first (claim three terminates 6 2 2 2 three-sound tt refl refl refl (lit≤ tt)
     (each tt (each tt (each tt (each tt none)))) (each refl (each refl (each refl (each refl none)))) (none-does (setSlice 6) terminates three tt) (lit≤ tt))
 
@@ -146,7 +126,7 @@ reorders : List (Context × Call)
 reorders = byTask (TaskChangePriority 2 7) ∷ byTask (TaskChangePriority 2 6) ∷ aTick ∷ aTick ∷ []
 
 pub needs-priority : TurnsGiven Runnable Alive Unset → ⊥
-unfolding opened three runnable reorders charges noneIs seenFirst
+unfolding opened reached three runnable reorders charges noneIs seenFirst
 needs-priority claim = seen-first (claim three reorders 6 2 2 2 three-sound tt refl refl refl (lit≤ tt)
     (each tt (each tt (each tt (each tt none)))) (none-does (terminate 2) reorders three tt) (none-does (setSlice 6) reorders three tt) (lit≤ tt))
 
@@ -155,6 +135,6 @@ resets : List (Context × Call)
 resets = aTick ∷ byTask (SysTsliceTicks 6 2) ∷ aTick ∷ byTask (SysTsliceTicks 6 2) ∷ []
 
 pub needs-slice : TurnsGiven Runnable Alive Prior → ⊥
-unfolding opened three runnable resets charges noneIs seenFirst
+unfolding opened reached three runnable resets charges noneIs seenFirst
 needs-slice claim = seen-first (claim three resets 6 2 2 2 three-sound tt refl refl refl (lit≤ tt)
     (each tt (each tt (each tt (each tt none)))) (none-does (terminate 2) resets three tt) (each refl (each refl (each refl (each refl none)))) (lit≤ tt))

@@ -1,5 +1,5 @@
--- The levels of records, the tables of slices and charges, and what it is to come nearer to the first place of a level.
--- It rests on the records of model/specs/Task, the effects of model/specs/Effect and the moves of Still.
+-- The levels of records, and what it is to come nearer to the first place of a level.
+-- It rests on the records of model/specs/Task, the moves of Still and the numbers that moves leave alone (Numbers).
 use mathlib.Core.Path.{_≡_, refl, _∙_}
 use mathlib.Core.Bool.{Bool, true, false, cond, not, _&&_}
 use mathlib.Core.List.{List, [], _∷_}
@@ -20,6 +20,7 @@ use Rattle.model.specs.Sound.{SoundTask}
 use Rattle.laws.proofs.Padded.{both}
 use Rattle.kept.proofs.Records.{some-of, level-live, live-made}
 use Rattle.turns.proofs.Still.{Keyed, Still}
+use Rattle.turns.proofs.Numbers.{Numbers}
 
 pub on-levels : Keyed levelOf (λ s. s .levels)
 unfolding moved
@@ -75,52 +76,12 @@ level-aged x h = go (isTimed x) (eqb (x .remaining) 1)
     go true false = unfold levelOf in refl
     go false b = refl
 
--- ---- the slices and charges stay where only tasks move
-pub record Rates (s s′ : State) : Type 0 where
-  pub slices : s′ .slices ≡ s .slices
-  pub charges : s′ .charges ≡ s .charges
-
-pub rates-moved : (s : State) (u : ℕ) (x : Task) → Rates s (moved u x s)
-unfolding moved
-rates-moved s u x = record { slices = refl; charges = refl }
-
-pub rates-then : {s₁ s₂ s₃ : State} → Rates s₁ s₂ → Rates s₂ s₃ → Rates s₁ s₃
-rates-then a b = record { slices = b .slices ∙ a .slices; charges = b .charges ∙ a .charges }
-
-pub rates-stopped : (s : State) (u : ℕ) → Rates s (stopped u s)
-unfolding stopped
-rates-stopped s u = go (eqb (task s u .activations) 0)
-  where
-    x : Task
-    x = dormant (task s u .base)
-
-    go : (b : Bool) → Rates s (cond b (moved u x s) (moved u (activated x) (moved u x s)))
-    go true = rates-moved s u x
-    go false = rates-then (rates-moved s u x) (rates-moved (moved u x s) u (activated x))
-
-pub rates-told : (w : News) (q : List ℕ) (s : State) → Rates s (toldAll w q s)
-unfolding toldAll
-rates-told w [] s = record { slices = refl; charges = refl }
-rates-told w (u ∷ q) s = go (eqb u 0) (rates-told w q (moved u (told w (task s u)) s))
-  where
-    z : State
-    z = moved u (told w (task s u)) s
-
-    go : (b : Bool) → Rates z (toldAll w q z) → Rates s (cond b s (toldAll w q z))
-    go true more = record { slices = refl; charges = refl }
-    go false more = rates-then (rates-moved s u (told w (task s u))) more
-
-pub rates-lapsed : (n i : ℕ) (s : State) → Rates s (lapsed n i s)
-unfolding lapsed
-rates-lapsed zero i s = record { slices = refl; charges = refl }
-rates-lapsed (suc n) i s = rates-then (rates-moved s i (aged (task s i))) (rates-lapsed n (suc i) (moved i (aged (task s i)) s))
-
 -- ---- nearer
 pub record Nearer (l t : ℕ) (s s′ : State) (d : ℕ) : Type 0 where
   pub steady : slice s′ l ≡ slice s l
   pub falls : place (level s′ l) t * slice s l + (d + charge s l) ≤ place (level s l) t * slice s l + charge s′ l
 
-pub nearer-still : {l t : ℕ} {s s′ : State} → Still levelOf (λ z. z .levels) l t s s′ → Rates s s′ → Nearer l t s s′ 0
+pub nearer-still : {l t : ℕ} {s s′ : State} → Still levelOf (λ z. z .levels) l t s s′ → Numbers s s′ → Nearer l t s s′ 0
 nearer-still {l} {t} {s} {s′} a r = record {
   steady = rw (r .slices);
   falls = rw (r .charges) (omega (arith, mul-le-mul-right (slice s l) (a .nearer)));

@@ -23,10 +23,12 @@ use Rattle.kept.specs.Statements.{stands}
 use Rattle.kept.proofs.Changes.{sound-withTime}
 use Rattle.turns.specs.Kind as Kinds
 use Rattle.turns.specs.Kind.{Kind, setSlice, isTick}
+use Rattle.turns.specs.Tally.{Entry}
 use Rattle.turns.proofs.Ways as Ways
 use Rattle.turns.proofs.Ways.{Way, refused-none, other-none}
 use Rattle.turns.proofs.Still.{tasks-charged, task-moved, still-moved, still-stopped, still-told, still-lapsed}
-use Rattle.turns.proofs.Levels.{on-levels, level-ended, level-told, level-aged, rates-moved, rates-stopped, rates-told, rates-lapsed, Nearer, nearer-still, nearer-then}
+use Rattle.turns.proofs.Numbers.{numbers-moved, numbers-stopped, numbers-told, numbers-lapsed}
+use Rattle.turns.proofs.Levels.{on-levels, level-ended, level-told, level-aged, Nearer, nearer-still, nearer-then}
 use Rattle.turns.proofs.Charged.{low, long, runs-not, nearer-charged}
 
 -- a call of kind j is not a termination of t, and does not set the slice of l
@@ -40,17 +42,17 @@ module _ (s : State) (k : Sound s) (l t : ℕ) (h : 1 ≤ l) (e : levelOf (task 
 
   -- another's record changes, or its own in its level
   moving : (u : ℕ) (x : Task) → (u ≡ t → levelOf x ≡ l) → Nearer l t s (moved u x s) 0
-  moving u x keeps = nearer-still (still-moved on-levels l t (low s k l t h e) s u x e keeps) (rates-moved s u x)
+  moving u x keeps = nearer-still (still-moved on-levels l t (low s k l t h e) s u x e keeps) (numbers-moved s u x)
 
   ending : (u v : ℕ) → Nearer l t s (moved u (ended (task s u) v 0) s) 0
   ending u v = moving u (ended (task s u) v 0) (λ z. rw z (level-ended (task s t) v 0 (omega arith) ∙ e))
 
   stopping : (u : ℕ) → (u ≡ t → ⊥) → Nearer l t s (stopped u s) 0
-  stopping u apart = nearer-still (still-stopped on-levels l t (low s k l t h e) s u apart e) (rates-stopped s u)
+  stopping u apart = nearer-still (still-stopped on-levels l t (low s k l t h e) s u apart e) (numbers-stopped s u)
 
   -- those in a row of waiters are told
   telling : (w : News) (n : ℕ) → Nearer l t s (toldAll w (waiters s n) s) 0
-  telling w n = nearer-still (still-told on-levels l t (low s k l t h e) w (waiters s n) s (λ there x z. level-told w x (omega arith) ∙ z) e) (rates-told w (waiters s n) s)
+  telling w n = nearer-still (still-told on-levels l t (low s k l t h e) w (waiters s n) s (λ there x z. level-told w x (omega arith) ∙ z) e) (numbers-told w (waiters s n) s)
 
   deleting : (n : ℕ) → Nearer l t s (deleted n s) 0
   unfolding deleted counted
@@ -69,7 +71,7 @@ module _ (s : State) (k : Sound s) (l t : ℕ) (h : 1 ≤ l) (e : levelOf (task 
 
   ticking : 1 ≤ slice s l → 1 ≤ place (level s l) t → Nearer l t s (ticked s) (one (eqb (levelOf (task s (running s))) l && not (eqb (slice s l) 0)))
   unfolding ticked running
-  ticking some behind = nearer-then (record { steady = a .steady; falls = a .falls }) (nearer-still (still-lapsed on-levels l t (low s k l t h e) 24 1 z (λ _. aging) stands) (rates-lapsed 24 1 z))
+  ticking some behind = nearer-then (record { steady = a .steady; falls = a .falls }) (nearer-still (still-lapsed on-levels l t (low s k l t h e) 24 1 z (λ _. aging) stands) (numbers-lapsed 24 1 z))
     where
       n : ℕ
       n = (s .time + 1) % 2 ^ 32
@@ -89,7 +91,7 @@ module _ (s : State) (k : Sound s) (l t : ℕ) (h : 1 ≤ l) (e : levelOf (task 
       aging : levelOf (aged (task z t)) ≡ l
       aging = level-aged (task z t) (omega (arith, stands)) ∙ stands
 
-  pub nearer : {j : Kind} {p : Plan} → Way s j p → (T (not (isRefusal (p .code))) → Spared l t j) → levelOf (task (carried s (p .effect)) t) ≡ l → 1 ≤ slice s l → 1 ≤ place (level s l) t
+  pub nearer : {j : Kind} {i : Entry} {p : Plan} → Way s j i p → (T (not (isRefusal (p .code))) → Spared l t j) → levelOf (task (carried s (p .effect)) t) ≡ l → 1 ≤ slice s l → 1 ≤ place (level s l) t
       → Nearer l t s (carried s (p .effect)) (one (not (isRefusal (p .code)) && (isTick j && (eqb (levelOf (task s (running s))) l && not (eqb (slice s l) 0)))))
   unfolding carried counted flagged
   nearer {j} (Ways.refuses c n) spared after some behind = rw (refused-none (isRefusal c) (isTick j && (eqb (levelOf (task s (running s))) l && not (eqb (slice s l) 0))) n) same
@@ -98,13 +100,14 @@ module _ (s : State) (k : Sound s) (l t : ℕ) (h : 1 ≤ l) (e : levelOf (task 
   nearer (Ways.terminates u) spared after some behind = stopping u (λ z. spared tt .alive (ap Kinds.terminate z))
   nearer (Ways.forces u) spared after some behind = ending u released
   nearer (Ways.slices i v) spared after some behind = slicing i v (λ z. spared tt .unset (ap setSlice z))
-  nearer (Ways.serves n top first) spared after some behind = ending (firstOf (s .waits) n) served
-  nearer (Ways.raises n c v top free) spared after some behind = record { steady = refl; falls = omega arith }
-  nearer (Ways.deletes n low top) spared after some behind = deleting n
+  nearer (Ways.serves n made first) spared after some behind = ending (firstOf (s .waits) n) served
+  nearer (Ways.raises n made free) spared after some behind = record { steady = refl; falls = omega arith }
+  nearer (Ways.deletes n made) spared after some behind = deleting n
   nearer Ways.keeps spared after some behind = same
-  nearer (Ways.counts n c v) spared after some behind = record { steady = refl; falls = omega arith }
+  nearer (Ways.creates n c v low top made) spared after some behind = record { steady = refl; falls = omega arith }
+  nearer (Ways.takes n made left i) spared after some behind = record { steady = refl; falls = omega arith }
   nearer (Ways.flags v f a b) spared after some behind = record { steady = refl; falls = omega arith }
   nearer (Ways.tells f w a b low top) spared after some behind = telling-flag f w a b
-  nearer (Ways.moves c u x n keeps) spared after some behind =
+  nearer (Ways.moves c u x n silent keeps) spared after some behind =
       rw (other-none (not (isRefusal c)))
       (moving u x (λ z. ap levelOf (sym (ap (λ i. task (moved i x s) t) z ∙ task-moved s t x (long s k l t h e))) ∙ after))

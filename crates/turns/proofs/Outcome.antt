@@ -3,7 +3,7 @@
 use mathlib.Core.Path.{_≡_, refl, sym, ap, _∙_}
 use mathlib.Core.Bool.{not, _&&_}
 use mathlib.Core.Logic.{_⊎_, inl, inr, ⊎-elim}
-use Prim.Native.Nat.{ℕ, suc, _+_, _≤_, _<_, _%_, _^_}
+use Prim.Native.Nat.{ℕ, suc, _+_, _-_, _≤_, _<_, _%_, _^_}
 use native.Mathlib.Omega.{arith}
 use lib.Dec.{T, eqb-refl}
 use lib.ListN.{length}
@@ -15,7 +15,7 @@ use Rattle.model.specs.declared.News.the-variants.{Deleted}
 use Rattle.model.specs.declared.Effect.the-variants.{Moves, Deletes, Ticks, Tells}
 use Rattle.model.specs.Row.{place, first, left, row, firstOf, relisted}
 use Rattle.model.specs.Task.{nothing, served, timeout, dlt, released, rowOf, ended, aged}
-use Rattle.model.specs.State.{task, waiters, running, moved, counted, flagged, sliced, withTime}
+use Rattle.model.specs.State.{task, count, maximum, waiters, running, moved, counted, flagged, sliced, withTime}
 use Rattle.model.specs.Code.{isRefusal}
 use Rattle.model.specs.Effect.{toldAll, deleted, toldFlag, charged, lapsed, ticked, carried}
 use Rattle.model.specs.Plan.{does}
@@ -32,6 +32,7 @@ use Rattle.kept.proofs.Running.{runner}
 use Rattle.kept.proofs.Shape.{no-waiter}
 use Rattle.turns.specs.Kind as Kinds
 use Rattle.turns.specs.Kind.{Kind, forcedRelease, release, deletion, isReleaseOf}
+use Rattle.turns.specs.Tally.{Entry}
 use Rattle.turns.specs.Statements.{Ended}
 use Rattle.turns.proofs.Places.{place-served}
 use Rattle.turns.proofs.Ways as Ways
@@ -143,7 +144,7 @@ module _ (s : State) (k : Sound s) (m t : ℕ) (h : 1 ≤ m) (top : m ≤ 12) (e
       z = charged (running s) (withTime ((s .time + 1) % 2 ^ 32) s)
 
       kept : (z .tasks ≡ s .tasks) × (z .waits ≡ s .waits)
-      kept = tasks-charged (withTime ((s .time + 1) % 2 ^ 32) s) (running s)
+      kept = let a = tasks-charged (withTime ((s .time + 1) % 2 ^ 32) s) (running s) in (a .0, a .1)
 
       at : task z t ≡ task s t
       at = rw (kept .0)
@@ -154,7 +155,7 @@ module _ (s : State) (k : Sound s) (m t : ℕ) (h : 1 ≤ m) (top : m ≤ 12) (e
           let y : task (lapsed 24 1 z) t ≡ aged (task s t) = lapsed-at 24 1 z t (rw (kept .0) long) low (omega (arith, waiter-in s k t (omega arith))) ∙ ap aged at in
           lapses tt refl (record { over = rw y (w .0); code = rw y (w .1) })
 
-  pub outcome : {j : Kind} {p : Plan} → Way s j p → Outcome s m t j p
+  pub outcome : {j : Kind} {i : Entry} {p : Plan} → Way s j i p → Outcome s m t j p
   unfolding carried counted flagged sliced
   outcome {j} (Ways.refuses c n) = on same (refused-none (isRefusal c) (isReleaseOf m j) n)
   outcome Ways.ticks = ticking
@@ -169,13 +170,14 @@ module _ (s : State) (k : Sound s) (m t : ℕ) (h : 1 ≤ m) (top : m ≤ 12) (e
       (λ (apart : u ≡ t → ⊥). on (moving u (ended (task s u) released 0) (λ z. absurd (apart z))) refl)
       (same? u t)
   outcome (Ways.slices l v) = on (untouched (sliced l v s) refl refl) refl
-  outcome (Ways.serves n most some) = serving n most some
-  outcome (Ways.raises n c v most free) =
-      on (untouched (counted n c v s) refl refl) (one-ne n m (λ y. no-waiter s k m h (omega arith) (rw y at free) t e))
-  outcome (Ways.deletes n some most) = deleting n some most
+  outcome (Ways.serves n made some) = serving n (made .top) some
+  outcome (Ways.raises n made free) =
+      on (untouched (counted n (count s n + 1) (maximum s n) s) refl refl) (one-ne n m (λ y. no-waiter s k m h (omega arith) (rw y at free) t e))
+  outcome (Ways.deletes n made) = deleting n (made .low) (made .top)
   outcome Ways.keeps = on same refl
-  outcome (Ways.counts n c v) = on (untouched (counted n c v s) refl refl) refl
+  outcome (Ways.creates n c v some most made) = on (untouched (counted n c v s) refl refl) refl
+  outcome (Ways.takes n made left e) = on (untouched (counted n (count s n - 1) (maximum s n) s) refl refl) refl
   outcome (Ways.flags v f a b) = on (untouched (flagged f a b s) refl refl) refl
   outcome (Ways.tells f w a b some most) = telling f w a b some most
-  outcome (Ways.moves c u x n keeps) =
+  outcome (Ways.moves c u x n silent keeps) =
       on (moving u x (λ z. let y = ap (λ i. rowOf (task s i)) z ∙ e in keeps k (omega arith) ∙ y)) (other-none (not (isRefusal c)))

@@ -46,8 +46,9 @@ task-either P s u x t here else = ⊎-elim
     (λ (apart : u ≡ t → ⊥). subst P (sym (task-kept s u x t apart)) else)
     (same? u t)
 
--- a tick's charge moves no task and no waiter
-pub tasks-charged : (s : State) (run : ℕ) → (charged run s .tasks ≡ s .tasks) × (charged run s .waits ≡ s .waits)
+-- a tick's charge moves no task and no waiter, and counts for no semaphore
+pub tasks-charged : (s : State) (run : ℕ)
+    → (charged run s .tasks ≡ s .tasks) × (charged run s .waits ≡ s .waits) × (charged run s .counts ≡ s .counts) × (charged run s .maxima ≡ s .maxima)
 unfolding charged chargedLevel rotated
 tasks-charged s run = go (eqb run 0) (eqb (slice s (task s run .priority)) 0) (ltb (charge s (task s run .priority) + 1) (slice s (task s run .priority)))
   where
@@ -57,11 +58,11 @@ tasks-charged s run = go (eqb run 0) (eqb (slice s (task s run .priority)) 0) (l
     z : Bool → Bool → Bool → State
     z a b c = cond a s (cond b s (cond c (withCharge l (charge s l + 1) s) (rotated l (withCharge l 0 s))))
 
-    go : (a b c : Bool) → (z a b c .tasks ≡ s .tasks) × (z a b c .waits ≡ s .waits)
-    go true b c = (refl, refl)
-    go false true c = (refl, refl)
-    go false false true = (refl, refl)
-    go false false false = (refl, refl)
+    go : (a b c : Bool) → (z a b c .tasks ≡ s .tasks) × (z a b c .waits ≡ s .waits) × (z a b c .counts ≡ s .counts) × (z a b c .maxima ≡ s .maxima)
+    go true b c = (refl, refl, refl, refl)
+    go false true c = (refl, refl, refl, refl)
+    go false false true = (refl, refl, refl, refl)
+    go false false false = (refl, refl, refl, refl)
 
 -- ---- a key and its table
 pub record Keyed (key : Task → ℕ) (table : State → List ℕ) : Type 0 where

@@ -1,5 +1,5 @@
--- Which calls have which plans: one pass over the services that keeps, besides the effect, the kind of the call that asks for it.
--- It rests on the services of model/specs/Service and on who runs (kept); the two bounds go by these ways, never by the calls.
+-- Which calls have which plans: one pass over the services that keeps, besides the effect, the kind of the call that asks for it and
+-- its entry in the tallies. It rests on the services of model/specs/Service and on who runs (kept); the theorems go by these ways, never by the calls.
 use mathlib.Core.Path.{_≡_, refl, ap}
 use mathlib.Core.Bool.{Bool, true, false, cond, not, _&&_}
 use Prim.Native.Nat.{ℕ, _+_, _-_, _≤_}
@@ -22,7 +22,7 @@ use Rattle.model.specs.Row.{firstOf}
 use Rattle.model.specs.Flag.{isAttributes, isMet, flagRow}
 use Rattle.model.specs.Task.{isCreated, isDormant, isSuspended, isWaiting, isAsleep, aSleep, served, released, rowOf, ended}
 use Rattle.model.specs.State.{task, count, maximum, bitsOf, semaphore, flag, running}
-use Rattle.model.specs.Code.{isRefusal}
+use Rattle.model.specs.Code.{number, isRefusal}
 use Rattle.model.specs.Plan.{isTask, isPriority, isSemaphore, isMaximum, isTimeout, isSlice, isMade, isFlag, isPattern, isMode, isFlagMade, does, answers, gives, refused, need, checked}
 use Rattle.model.specs.Service.{create, delete, activate, exit, terminate, suspend, resume, sleep, wakeup, releaseWait, wanted, changePriority, tsliceTicks, tick, semCreate, semDelete, signal, acquire, polling}
 use Rattle.model.specs.Service.{eventCreate, eventDelete, eventSet, eventClear, isOccupied, taken, eventWait, eventPoll}
@@ -36,23 +36,40 @@ use Rattle.kept.proofs.Running.{runner}
 use Rattle.kept.proofs.Shape.{range}
 use Rattle.turns.specs.Kind as Kinds
 use Rattle.turns.specs.Kind.{Kind, other, forcedRelease, setSlice, release, deletion, kind}
+use Rattle.turns.specs.Tally as Tallies
+use Rattle.turns.specs.Tally.{Entry, creation, acquisition, poll, none, entry, isZero}
 
-pub data Way (s : State) : Kind → Plan → Type 0 where
-  refuses : {k : Kind} (c : Code) → T (isRefusal c) → Way s k (refused c)
-  ticks : Way s Kinds.tick (does Ticks)
-  exits : 1 ≤ running s → Way s Kinds.exit (does (Stops (running s)))
-  terminates : (u : ℕ) → Way s (Kinds.terminate u) (does (Stops u))
-  forces : (u : ℕ) → Way s (forcedRelease u) (does (Moves u (ended (task s u) released 0)))
-  slices : (l v : ℕ) → Way s (setSlice l) (does (Slices l v))
-  serves : (m : ℕ) → m ≤ 12 → 1 ≤ firstOf (s .waits) m → Way s (release m) (does (Moves (firstOf (s .waits) m) (ended (task s (firstOf (s .waits) m)) served 0)))
-  raises : (m n v : ℕ) → m ≤ 12 → firstOf (s .waits) m ≡ 0 → Way s (release m) (does (Counts m n v))
-  deletes : (m : ℕ) → 1 ≤ m → m ≤ 12 → Way s (deletion m) (does (Deletes m))
+-- semaphore m is one of the 12, and exists
+pub record Made (s : State) (m : ℕ) : Type 0 where
+  pub low : 1 ≤ m
+  pub top : m ≤ 12
+  pub made : 1 ≤ maximum s m
+
+-- an entry that takes a resource of m
+pub data Takes (m : ℕ) : Entry → Type 0 where
+  atOnce : Takes m (acquisition m)
+  byPoll : Takes m (poll m)
+
+pub data Way (s : State) : Kind → Entry → Plan → Type 0 where
+  refuses : {k : Kind} {e : Entry} (c : Code) → T (isRefusal c) → Way s k e (refused c)
+  ticks : Way s Kinds.tick none (does Ticks)
+  exits : 1 ≤ running s → Way s Kinds.exit none (does (Stops (running s)))
+  terminates : (u : ℕ) → Way s (Kinds.terminate u) none (does (Stops u))
+  forces : (u : ℕ) → Way s (forcedRelease u) none (does (Moves u (ended (task s u) released 0)))
+  slices : (l v : ℕ) → Way s (setSlice l) none (does (Slices l v))
+  serves : (m : ℕ) → Made s m → 1 ≤ firstOf (s .waits) m
+      → Way s (release m) (Tallies.release m) (does (Moves (firstOf (s .waits) m) (ended (task s (firstOf (s .waits) m)) served 0)))
+  raises : (m : ℕ) → Made s m → firstOf (s .waits) m ≡ 0 → Way s (release m) (Tallies.release m) (does (Counts m (count s m + 1) (maximum s m)))
+  deletes : (m : ℕ) → Made s m → Way s (deletion m) (Tallies.deletion m) (does (Deletes m))
   -- any other call lets those who wait on semaphores wait as they did
-  keeps : Way s other (does Nothing)
-  counts : (m n v : ℕ) → Way s other (does (Counts m n v))
-  flags : (v f a b : ℕ) → Way s other (gives v (Flags f a b))
-  tells : (f : ℕ) (w : News) (a b : ℕ) → 1 ≤ f → f ≤ 8 → Way s other (does (Tells f w a b))
-  moves : (c : Code) (u : ℕ) (x : Task) → T (not (isRefusal c)) → (Sound s → 1 ≤ rowOf (task s u) → rowOf x ≡ rowOf (task s u)) → Way s other (answers c (Moves u x))
+  keeps : Way s other none (does Nothing)
+  creates : (m n v : ℕ) → 1 ≤ m → m ≤ 12 → 1 ≤ v → Way s other (creation m n) (does (Counts m n v))
+  takes : {e : Entry} (m : ℕ) → Made s m → 1 ≤ count s m → Takes m e → Way s other e (does (Counts m (count s m - 1) (maximum s m)))
+  flags : (v f a b : ℕ) → Way s other none (gives v (Flags f a b))
+  tells : (f : ℕ) (w : News) (a b : ℕ) → 1 ≤ f → f ≤ 8 → Way s other none (does (Tells f w a b))
+  -- a task's record changes; only a call that is answered with another code than 0 has an entry
+  moves : {e : Entry} (c : Code) (u : ℕ) (x : Task) → T (not (isRefusal c)) → (T (isZero (number c)) → e ≡ none)
+      → (Sound s → 1 ≤ rowOf (task s u) → rowOf x ≡ rowOf (task s u)) → Way s other e (answers c (Moves u x))
 
 -- ---- what counts: nothing of a refusal, and nothing of a call of another kind
 pub refused-none : (b d : Bool) → T b → one (not b && d) ≡ 0
@@ -64,16 +81,16 @@ other-none true = refl
 other-none false = refl
 
 -- ---- the tests of a plan
-module _ {s : State} {k : Kind} where
-  needs : (b : Bool) (c : Code) (p : Plan) → T (isRefusal c) → (T b → Way s k p) → Way s k (need b c p)
+module _ {s : State} {k : Kind} {e : Entry} where
+  needs : (b : Bool) (c : Code) (p : Plan) → T (isRefusal c) → (T b → Way s k e p) → Way s k e (need b c p)
   needs true c p n f = f tt
   needs false c p n f = refuses c n
 
-  picks : (b : Bool) (p q : Plan) → (T b → Way s k p) → (T (not b) → Way s k q) → Way s k (cond b p q)
+  picks : (b : Bool) (p q : Plan) → (T b → Way s k e p) → (T (not b) → Way s k e q) → Way s k e (cond b p q)
   picks true p q f g = f tt
   picks false p q f g = g tt
 
-  checks : (right there mine : Bool) (p : Plan) → (T right → T there → Way s k p) → Way s k (checked right there mine p)
+  checks : (right there mine : Bool) (p : Plan) → (T right → T there → Way s k e p) → Way s k e (checked right there mine p)
   checks right there mine p f =
       needs right WrongParam (need there NoExs (need mine WContext p)) tt (λ h.
       needs there NoExs (need mine WContext p) tt (λ g. needs mine WContext p tt (λ _. f h g)))
@@ -90,123 +107,130 @@ module _ (s : State) where
   runs-idle k h = idle (task s (running s)) (omega (arith, runner s k (some-of (running s) h) .idle))
 
   -- ---- tasks
-  way-create : (mine : Bool) (t p o : ℕ) → Way s other (create mine t p o (task s t))
+  way-create : (mine : Bool) (t p o : ℕ) → Way s other none (create mine t p o (task s t))
   unfolding create
   way-create mine t p o = checks (isTask t && (isPriority p && (leb o 1 && not (isCreated (task s t))))) true mine _ (λ h _.
       let a = both (isTask t) (isPriority p && (leb o 1 && not (isCreated (task s t)))) h in
       let b = both (isPriority p) (leb o 1 && not (isCreated (task s t))) (a .1) in
       let e = none-of (task s t .base) (both (leb o 1) (not (isCreated (task s t))) (b .1) .1) in
-      moves _ _ _ tt (λ k. idle (task s t) (omega (arith, ap (λ (x : Task). x .wait) (k .tasks t .blank e)))))
+      moves _ _ _ tt (λ _. refl) (λ k. idle (task s t) (omega (arith, ap (λ (x : Task). x .wait) (k .tasks t .blank e)))))
 
-  way-delete : (mine : Bool) (t : ℕ) → Way s other (delete mine t (task s t))
+  way-delete : (mine : Bool) (t : ℕ) → Way s other none (delete mine t (task s t))
   unfolding delete
   way-delete mine t = checks (isTask t) (isCreated (task s t)) mine _ (λ _ _. needs (isDormant (task s t)) _ _ tt (λ rests.
-      moves _ _ _ tt (λ k. dormant-idle (task s t) (k .tasks t) (eqb→eq (task s t .active) 0 rests))))
+      moves _ _ _ tt (λ _. refl) (λ k. dormant-idle (task s t) (k .tasks t) (eqb→eq (task s t .active) 0 rests))))
 
-  way-activate : (mine : Bool) (t : ℕ) → Way s other (activate mine t (task s t))
+  way-activate : (mine : Bool) (t : ℕ) → Way s other none (activate mine t (task s t))
   unfolding activate rowOf
-  way-activate mine t = checks (isTask t) (isCreated (task s t)) mine _ (λ _ _. picks (isDormant (task s t)) _ _ (λ _. moves _ _ _ tt (λ _ _. refl))
-      (λ _. needs (eqb (task s t .activations) 0) _ _ tt (λ _. moves _ _ _ tt (λ _ _. refl))))
+  way-activate mine t = checks (isTask t) (isCreated (task s t)) mine _ (λ _ _. picks (isDormant (task s t)) _ _ (λ _. moves _ _ _ tt (λ _. refl) (λ _ _. refl))
+      (λ _. needs (eqb (task s t .activations) 0) _ _ tt (λ _. moves _ _ _ tt (λ _. refl) (λ _ _. refl))))
 
-  way-exit : (mine : Bool) → Way s Kinds.exit (exit mine (running s))
+  way-exit : (mine : Bool) → Way s Kinds.exit none (exit mine (running s))
   unfolding exit
   way-exit mine = checks true true mine _ (λ _ _. needs (not (eqb (running s) 0)) _ _ tt (λ some. exits (some-of (running s) some)))
 
-  way-terminate : (mine : Bool) (t : ℕ) → Way s (Kinds.terminate t) (terminate mine t (running s) (task s t))
+  way-terminate : (mine : Bool) (t : ℕ) → Way s (Kinds.terminate t) none (terminate mine t (running s) (task s t))
   unfolding terminate
   way-terminate mine t = checks (isTask t) (isCreated (task s t)) mine _ (λ _ _. needs (not (eqb t (running s))) _ _ tt (λ _.
       needs (not (isDormant (task s t))) _ _ tt (λ _. terminates t)))
 
-  way-suspend : (mine : Bool) (t : ℕ) → Way s other (suspend mine t (task s t))
+  way-suspend : (mine : Bool) (t : ℕ) → Way s other none (suspend mine t (task s t))
   unfolding suspend rowOf
   way-suspend mine t = checks (isTask t) (isCreated (task s t)) mine _ (λ _ _. needs (not (isDormant (task s t))) _ _ tt (λ _.
-      needs (not (isSuspended (task s t))) _ _ tt (λ _. moves _ _ _ tt (λ _ _. refl))))
+      needs (not (isSuspended (task s t))) _ _ tt (λ _. moves _ _ _ tt (λ _. refl) (λ _ _. refl))))
 
-  way-resume : (mine : Bool) (t : ℕ) → Way s other (resume mine t (task s t))
+  way-resume : (mine : Bool) (t : ℕ) → Way s other none (resume mine t (task s t))
   unfolding resume rowOf
-  way-resume mine t = checks (isTask t) (isCreated (task s t)) mine _ (λ _ _. needs (isSuspended (task s t)) _ _ tt (λ _. moves _ _ _ tt (λ _ _. refl)))
+  way-resume mine t = checks (isTask t) (isCreated (task s t)) mine _ (λ _ _. needs (isSuspended (task s t)) _ _ tt (λ _. moves _ _ _ tt (λ _. refl) (λ _ _. refl)))
 
-  way-sleep : (mine : Bool) (d : ℕ) → Way s other (sleep mine d (running s) (task s (running s)))
+  way-sleep : (mine : Bool) (d : ℕ) → Way s other none (sleep mine d (running s) (task s (running s)))
   unfolding sleep
   way-sleep mine d = checks (isTimeout d) true mine _ (λ _ _. needs (not (eqb (running s) 0)) _ _ tt (λ some. picks (eqb (task s (running s) .wakeups) 0) _ _
-      (λ _. moves _ _ _ tt (λ k. runs-idle k some)) (λ _. moves _ _ _ tt (λ k. runs-idle k some))))
+      (λ _. moves _ _ _ tt (λ _. refl) (λ k. runs-idle k some)) (λ _. moves _ _ _ tt (λ _. refl) (λ k. runs-idle k some))))
 
-  way-wakeup : (mine : Bool) (t : ℕ) → Way s other (wakeup mine t (task s t))
+  way-wakeup : (mine : Bool) (t : ℕ) → Way s other none (wakeup mine t (task s t))
   unfolding wakeup rowOf
   way-wakeup mine t = checks (isTask t) (isCreated (task s t)) mine _ (λ _ _. needs (not (isDormant (task s t))) _ _ tt (λ _. picks (isAsleep (task s t)) _ _
-      (λ sleeps. moves _ _ _ tt (λ _. idle (task s t) (omega (arith, eqb→eq (task s t .wait) aSleep sleeps))))
-      (λ _. needs (eqb (task s t .wakeups) 0) _ _ tt (λ _. moves _ _ _ tt (λ _ _. refl)))))
+      (λ sleeps. moves _ _ _ tt (λ _. refl) (λ _. idle (task s t) (omega (arith, eqb→eq (task s t .wait) aSleep sleeps))))
+      (λ _. needs (eqb (task s t .wakeups) 0) _ _ tt (λ _. moves _ _ _ tt (λ _. refl) (λ _ _. refl)))))
 
-  way-releaseWait : (mine : Bool) (t : ℕ) → Way s (forcedRelease t) (releaseWait mine t (task s t))
+  way-releaseWait : (mine : Bool) (t : ℕ) → Way s (forcedRelease t) none (releaseWait mine t (task s t))
   unfolding releaseWait
   way-releaseWait mine t = checks (isTask t) (isCreated (task s t)) mine _ (λ _ _. needs (isWaiting (task s t)) _ _ tt (λ _. forces t))
 
-  way-changePriority : (mine : Bool) (t p : ℕ) → Way s other (changePriority mine t p (task s t))
+  way-changePriority : (mine : Bool) (t p : ℕ) → Way s other none (changePriority mine t p (task s t))
   unfolding changePriority rowOf
   way-changePriority mine t p = checks (isTask t && leb p 30) (isCreated (task s t)) mine _ (λ _ _. needs (not (isDormant (task s t))) _ _ tt (λ _.
-      picks (eqb (wanted p (task s t)) (task s t .priority)) _ _ (λ _. keeps) (λ _. moves _ _ _ tt (λ _ _. refl))))
+      picks (eqb (wanted p (task s t)) (task s t .priority)) _ _ (λ _. keeps) (λ _. moves _ _ _ tt (λ _. refl) (λ _ _. refl))))
 
   -- ---- slices and the tick
-  way-tsliceTicks : (mine : Bool) (l v : ℕ) → Way s (setSlice l) (tsliceTicks mine l v)
+  way-tsliceTicks : (mine : Bool) (l v : ℕ) → Way s (setSlice l) none (tsliceTicks mine l v)
   unfolding tsliceTicks
   way-tsliceTicks mine l v = checks (isPriority l && isSlice v) true mine _ (λ _ _. slices l v)
 
-  way-tick : (mine : Bool) → Way s Kinds.tick (tick mine)
+  way-tick : (mine : Bool) → Way s Kinds.tick none (tick mine)
   unfolding tick
   way-tick mine = checks true true mine _ (λ _ _. ticks)
 
   -- ---- semaphores
-  way-semCreate : (mine : Bool) (m n v : ℕ) → Way s other (semCreate mine m n v (semaphore s m))
+  is-made : (m : ℕ) → T (isSemaphore m) → T (isMade (semaphore s m)) → Made s m
+  is-made m h g = let r = range 1 m 12 h in record { low = r .0; top = r .1; made = some-of (maximum s m) g }
+
+  way-semCreate : (mine : Bool) (m n v : ℕ) → Way s other (creation m n) (semCreate mine m n v (semaphore s m))
   unfolding semCreate
-  way-semCreate mine m n v = checks (isSemaphore m && (isMaximum v && (leb n v && not (isMade (semaphore s m))))) true mine _ (λ _ _. counts m n v)
+  way-semCreate mine m n v = checks (isSemaphore m && (isMaximum v && (leb n v && not (isMade (semaphore s m))))) true mine _ (λ h _.
+      let a = both (isSemaphore m) (isMaximum v && (leb n v && not (isMade (semaphore s m)))) h in
+      let r = range 1 m 12 (a .0) in
+      creates m n v (r .0) (r .1) (range 1 v 65535 (both (isMaximum v) (leb n v && not (isMade (semaphore s m))) (a .1) .0) .0))
 
-  way-semDelete : (mine : Bool) (m : ℕ) → Way s (deletion m) (semDelete mine m (semaphore s m))
+  way-semDelete : (mine : Bool) (m : ℕ) → Way s (deletion m) (Tallies.deletion m) (semDelete mine m (semaphore s m))
   unfolding semDelete
-  way-semDelete mine m = checks (isSemaphore m) (isMade (semaphore s m)) mine _ (λ h _. let r = range 1 m 12 h in deletes m (r .0) (r .1))
+  way-semDelete mine m = checks (isSemaphore m) (isMade (semaphore s m)) mine _ (λ h g. deletes m (is-made m h g))
 
-  way-signal : (mine : Bool) (m : ℕ) → Way s (release m) (signal mine m (task s (firstOf (s .waits) m)) (semaphore s m))
+  way-signal : (mine : Bool) (m : ℕ) → Way s (release m) (Tallies.release m) (signal mine m (task s (firstOf (s .waits) m)) (semaphore s m))
   unfolding signal
-  way-signal mine m = checks (isSemaphore m) (isMade (semaphore s m)) mine _ (λ h _. picks (eqb (firstOf (s .waits) m) 0) _ _
-      (λ none. needs (ltb (count s m) (maximum s m)) _ _ tt (λ _. raises m (count s m + 1) (maximum s m) (range 1 m 12 h .1) (eqb→eq (firstOf (s .waits) m) 0 none)))
-      (λ some. serves m (range 1 m 12 h .1) (some-of (firstOf (s .waits) m) some)))
+  way-signal mine m = checks (isSemaphore m) (isMade (semaphore s m)) mine _ (λ h g. picks (eqb (firstOf (s .waits) m) 0) _ _
+      (λ none. needs (ltb (count s m) (maximum s m)) _ _ tt (λ _. raises m (is-made m h g) (eqb→eq (firstOf (s .waits) m) 0 none)))
+      (λ some. serves m (is-made m h g) (some-of (firstOf (s .waits) m) some)))
 
-  way-acquire : (mine : Bool) (m d : ℕ) → Way s other (acquire mine m d (running s) (task s (running s)) (semaphore s m))
+  way-acquire : (mine : Bool) (m d : ℕ) → Way s other (acquisition m) (acquire mine m d (running s) (task s (running s)) (semaphore s m))
   unfolding acquire
-  way-acquire mine m d = checks (isSemaphore m && isTimeout d) (isMade (semaphore s m)) mine _ (λ _ _. needs (not (eqb (running s) 0)) _ _ tt (λ some.
-      picks (eqb (count s m) 0) _ _ (λ _. moves _ _ _ tt (λ k. runs-idle k some)) (λ _. counts m (count s m - 1) (maximum s m))))
+  way-acquire mine m d = checks (isSemaphore m && isTimeout d) (isMade (semaphore s m)) mine _ (λ h g. needs (not (eqb (running s) 0)) _ _ tt (λ some.
+      picks (eqb (count s m) 0) _ _ (λ _. moves _ _ _ tt (λ z. absurd z) (λ k. runs-idle k some))
+      (λ left. takes m (is-made m (both (isSemaphore m) (isTimeout d) h .0) g) (some-of (count s m) left) atOnce)))
 
-  way-polling : (mine : Bool) (m : ℕ) → Way s other (polling mine m (semaphore s m))
+  way-polling : (mine : Bool) (m : ℕ) → Way s other (poll m) (polling mine m (semaphore s m))
   unfolding polling
-  way-polling mine m = checks (isSemaphore m) (isMade (semaphore s m)) mine _ (λ _ _. needs (not (eqb (count s m) 0)) _ _ tt (λ _. counts m (count s m - 1) (maximum s m)))
+  way-polling mine m = checks (isSemaphore m) (isMade (semaphore s m)) mine _ (λ h g. needs (not (eqb (count s m) 0)) _ _ tt (λ left. takes m (is-made m h g) (some-of (count s m) left) byPoll))
 
   -- ---- event flags
-  way-eventCreate : (mine : Bool) (f a b : ℕ) → Way s other (eventCreate mine f a b (flag s f))
+  way-eventCreate : (mine : Bool) (f a b : ℕ) → Way s other none (eventCreate mine f a b (flag s f))
   unfolding eventCreate
   way-eventCreate mine f a b = checks (isFlag f && (isAttributes a && not (isFlagMade (flag s f)))) true mine _ (λ _ _. flags 0 f (a + 1) b)
 
-  way-eventDelete : (mine : Bool) (f : ℕ) → Way s other (eventDelete mine f (flag s f))
+  way-eventDelete : (mine : Bool) (f : ℕ) → Way s other none (eventDelete mine f (flag s f))
   unfolding eventDelete
   way-eventDelete mine f = checks (isFlag f) (isFlagMade (flag s f)) mine _ (λ h _. let r = range 1 f 8 h in tells f _ _ _ (r .0) (r .1))
 
-  way-eventSet : (mine : Bool) (f p : ℕ) → Way s other (eventSet mine f p (task s (firstOf (s .waits) (flagRow f))) (flag s f))
+  way-eventSet : (mine : Bool) (f p : ℕ) → Way s other none (eventSet mine f p (task s (firstOf (s .waits) (flagRow f))) (flag s f))
   unfolding eventSet
   way-eventSet mine f p = checks (isFlag f && isPattern p) (isFlagMade (flag s f)) mine _ (λ h _. let r = range 1 f 8 (both (isFlag f) (isPattern p) h .0) in tells f _ _ _ (r .0) (r .1))
 
-  way-eventClear : (mine : Bool) (f p : ℕ) → Way s other (eventClear mine f p (flag s f))
+  way-eventClear : (mine : Bool) (f p : ℕ) → Way s other none (eventClear mine f p (flag s f))
   unfolding eventClear
   way-eventClear mine f p = checks (isFlag f && isPattern p) (isFlagMade (flag s f)) mine _ (λ _ _. flags 0 f _ _)
 
-  way-eventWait : (mine : Bool) (f p m d : ℕ) → Way s other (eventWait mine f p m d (running s) (task s (running s)) (flag s f))
+  way-eventWait : (mine : Bool) (f p m d : ℕ) → Way s other none (eventWait mine f p m d (running s) (task s (running s)) (flag s f))
   unfolding eventWait taken
   way-eventWait mine f p m d = checks (isFlag f && (isPattern p && (isMode m && isTimeout d))) (isFlagMade (flag s f)) mine _ (λ _ _. needs (not (eqb (running s) 0)) _ _ tt (λ some.
-      needs (not (isOccupied (flag s f))) _ _ tt (λ _. picks (isMet p m (bitsOf s f)) _ _ (λ _. flags _ f _ _) (λ _. moves _ _ _ tt (λ k. runs-idle k some)))))
+      needs (not (isOccupied (flag s f))) _ _ tt (λ _. picks (isMet p m (bitsOf s f)) _ _ (λ _. flags _ f _ _) (λ _. moves _ _ _ tt (λ _. refl) (λ k. runs-idle k some)))))
 
-  way-eventPoll : (mine : Bool) (f p m : ℕ) → Way s other (eventPoll mine f p m (flag s f))
+  way-eventPoll : (mine : Bool) (f p m : ℕ) → Way s other none (eventPoll mine f p m (flag s f))
   unfolding eventPoll taken
   way-eventPoll mine f p m = checks (isFlag f && (isPattern p && isMode m)) (isFlagMade (flag s f)) mine _ (λ _ _. needs (not (isOccupied (flag s f))) _ _ tt (λ _.
       needs (isMet p m (bitsOf s f)) _ _ tt (λ _. flags _ f _ _)))
 
-  way-event : (c : Context) (f : ℕ) (e : Events.Event) → Way s other (eventPlan c f e (running s) (task s (eventSubject e (running s) (firstOf (s .waits) (flagRow f)))) (flag s f))
+  way-event : (c : Context) (f : ℕ) (e : Events.Event) → Way s other none (eventPlan c f e (running s) (task s (eventSubject e (running s) (firstOf (s .waits) (flagRow f)))) (flag s f))
   unfolding eventPlan
   way-event c f (Create a b) = way-eventCreate (inT c) f a b
   way-event c f Delete = way-eventDelete (inT c) f
@@ -219,7 +243,7 @@ module _ (s : State) where
   way-event c f (Iwait p m) = way-eventPoll (inI c) f p m
 
 -- ---- every call
-pub way : (s : State) (c : Context) (a : Call) → Way s (kind a) (planned s c a)
+pub way : (s : State) (c : Context) (a : Call) → Way s (kind a) (entry a) (planned s c a)
 unfolding planned plan
 way s c (TaskCreate t p o) = way-create s (inT c) t p o
 way s c (TaskDelete t) = way-delete s (inT c) t

@@ -1,2 +1,5 @@
 pub mod Kind
+pub mod Tally
 pub mod Statements
+pub mod Ledger
+pub mod Wrong

@@ -1,5 +1,5 @@
 -- Demand 3, 'turns come round', over the transitions of demand 2: first for a semaphore's waiters, then for the runnable tasks of a level.
--- It speaks of `step` and `Sound` of model, and is proved in proofs/Served and proofs/Turns.
+-- Then request P9, 'account for every resource'. They speak of `step` and `Sound` of model, and are proved in proofs/Served, Turns and Accounted.
 use mathlib.Core.Path.{_≡_}
 use mathlib.Core.Bool.{Bool, not, _&&_}
 use mathlib.Core.List.{List, [], _∷_}
@@ -10,12 +10,14 @@ use Rattle.model.specs.declared.Context.{Context}
 use Rattle.model.specs.declared.Call.{Call}
 use Rattle.model.specs.Row.{place, firstOf}
 use Rattle.model.specs.Task.{nothing, served, timeout, dlt, released, isRunnable, levelOf, rowOf}
-use Rattle.model.specs.State.{task, slice, level, waiters, running}
+use Rattle.model.specs.State.{fresh, task, slice, count, level, waiters, semaphore, running}
 use Rattle.model.specs.Code.{isRefusal}
+use Rattle.model.specs.Plan.{isMade}
 use Rattle.model.specs.Call.{step}
 use Rattle.model.specs.Test.{one}
 use Rattle.model.specs.Sound.{Sound}
 use Rattle.turns.specs.Kind.{Kind, tick, terminate, forcedRelease, setSlice, deletion, kind, isTick, isReleaseOf}
+use Rattle.turns.specs.Tally.{Kernel, reachedBy, Tally, noTally, tally}
 
 -- ---- a call, with the context it comes from
 -- the state after it
@@ -137,3 +139,22 @@ TurnsComeRound = (s : State) (calls : List (Context × Call)) (l t q v : ℕ)
     → Each (SliceNotSet l) s calls
     → (q - 1) * v ≤ charges s calls l
     → FirstBy l t ((q - 1) * v) s calls
+
+-- ---- C: through any calls from the fresh state, of each semaphore that then exists, since its latest creation: start value plus
+-- successful releases equals present count plus resources taken, at once, by poll or handed to a waiter
+abbrev pub exists : State → ℕ → Bool
+exists s m = isMade (semaphore s m)
+
+abbrev pub Balanced : State → ℕ → Tally → Type 0
+Balanced s m t = t .start + t .released ≡ count s m + (t .atOnce + t .polled + t .handed)
+
+abbrev pub EveryResource : Kernel → Type 0
+EveryResource k = (calls : List (Context × Call)) (m : ℕ)
+    → T (exists (reachedBy k fresh calls) m)
+    → Balanced (reachedBy k fresh calls) m (tally k m fresh calls noTally)
+
+-- a semaphore that does not exist has no tally: deletion ends it
+abbrev pub NoneWithout : Kernel → Type 0
+NoneWithout k = (calls : List (Context × Call)) (m : ℕ)
+    → T (not (exists (reachedBy k fresh calls) m))
+    → tally k m fresh calls noTally ≡ noTally

@@ -1,0 +1,187 @@
+-- Part C of specs/Statements: every resource is accounted for, whatever is called, by `step` as by the checked `call`.
+-- It goes by the ways of the plans (Ways), the numbers that moves leave alone (Numbers) and who is served at a release (Handed).
+use mathlib.Core.Path.{_≡_, refl, sym, ap, _∙_}
+use mathlib.Core.Bool.{Bool, true, false, cond, not}
+use mathlib.Core.List.{List, [], _∷_}
+use mathlib.Core.Logic.{_⊎_, inl, inr}
+use Prim.Native.Nat.{ℕ, _+_, _-_, _≤_, _%_, _^_}
+use native.Mathlib.Omega.{arith}
+use lib.Dec.{T, eqb}
+use lib.IntN.{ℤ, pos, negsuc}
+use lib.ListN.{getD, set}
+use lib.Seq.{getD-set-same, getD-set-other}
+use borrow.Author.Tests.{eq-eqb, ne-eqb}
+use Rattle.model.specs.declared.State.{State}
+use Rattle.model.specs.declared.Plan.{Plan}
+use Rattle.model.specs.declared.News.the-variants.{Deleted}
+use Rattle.model.specs.declared.Context.{Context}
+use Rattle.model.specs.declared.Call.{Call}
+use Rattle.model.specs.Row.{firstOf}
+use Rattle.model.specs.Flag.{flagRow}
+use Rattle.model.specs.Task.{served, released, ended}
+use Rattle.model.specs.State.{fresh, task, count, maximum, waiters, running, moved, counted, flagged, sliced, withTime}
+use Rattle.model.specs.Code.{number, isNegative}
+use Rattle.model.specs.Effect.{toldAll, deleted, toldFlag, charged, lapsed, ticked, carried}
+use Rattle.model.specs.Call.{step, call}
+use Rattle.model.specs.Sound.{Sound}
+use Rattle.laws.proofs.Number.{same?}
+use Rattle.kept.proofs.Fresh.{reads}
+use Rattle.kept.proofs.Records.{some-of, none-of}
+use Rattle.kept.proofs.Kept.{fresh-is-sound, sound-stays-sound}
+use Rattle.tested.proofs.Same.{sound-exactly}
+use Rattle.turns.specs.Kind.{Kind}
+use Rattle.turns.specs.Tally as Tallies
+use Rattle.turns.specs.Tally.{reachedBy, Entry, none, isZero, ends, Tally, begun, noTally, withRelease, withAtOnce, withPolled, entered, tallied, tally}
+use Rattle.turns.specs.Statements.{Balanced, EveryResource, NoneWithout}
+use Rattle.turns.proofs.Ways as Ways
+use Rattle.turns.proofs.Ways.{Made, Takes, atOnce, byPoll, Way, way}
+use Rattle.turns.proofs.Still.{tasks-charged}
+use Rattle.turns.proofs.Numbers.{Numbers, numbers-moved, numbers-stopped, numbers-told, numbers-lapsed}
+use Rattle.turns.proofs.Handed.{one-is-served, nobody-is-served}
+
+-- what the theorem keeps from call to call, of a semaphore with count c and maximum v: its account is even, and none is kept of one
+-- that does not exist
+record Account (c v : ℕ) (t : Tally) : Type 0 where
+  even : t .start + t .released ≡ c + (t .atOnce + t .polled + t .handed)
+  none : v ≡ 0 → t ≡ noTally
+
+abbrev Kept : State → ℕ → Tally → Type 0
+Kept s m t = Account (count s m) (maximum s m) t
+
+-- ---- what is entered
+-- a refusal is not answered with 0
+refused-not : (z : ℤ) → T (isNegative z) → isZero z ≡ false
+refused-not (pos n) h = absurd h
+refused-not (negsuc n) h = refl
+
+-- nor is anything entered where only an answer of 0 would be
+not-entered : (b : Bool) (m : ℕ) (e : Entry) (h : ℕ) (t : Tally) → (T b → e ≡ none) → cond b (entered m e h t) t ≡ t
+not-entered true m e h t silent = rw (silent tt)
+not-entered false m e h t silent = refl
+
+-- ---- one call
+module _ (s : State) (k : Sound s) (m : ℕ) (t : Tally) (a : Kept s m t) where
+  -- where the numbers stay, what is kept stays
+  stays : (z : State) → z .counts ≡ s .counts → z .maxima ≡ s .maxima → {u : Tally} → Kept s m u → Kept z m u
+  stays z c v b = rw (c, v) b
+
+  numbers : {z : State} → Numbers s z → Kept z m t
+  numbers {z} e = stays z (e .counts) (e .maxima) a
+
+  -- semaphore n gets count c and maximum v, and if it is m, a tally that fits them
+  counting : (z : State) → z .counts ≡ s .counts → z .maxima ≡ s .maxima → (n c v : ℕ) (u : Tally) → n ≤ 12 → (n ≡ m → Account c v u) → Kept (counted n c v z) m (cond (eqb n m) u t)
+  unfolding counted
+  counting z e f n c v u top fits = rw (e, f) (go (same? n m))
+    where
+      go : (n ≡ m) ⊎ (n ≡ m → ⊥) → Account (getD (set (s .counts) n c) m 0) (getD (set (s .maxima) n v) m 0) (cond (eqb n m) u t)
+      go (inl y) = rw (eq-eqb n m y, ← y, getD-set-same (s .counts) n c 0 (omega (arith, k .counts#)), getD-set-same (s .maxima) n v 0 (omega (arith, k .maxima#))) (fits y)
+      go (inr apart) = rw (ne-eqb n m apart, getD-set-other (s .counts) n m c 0 (λ y. apart (sym y)), getD-set-other (s .maxima) n m v 0 (λ y. apart (sym y))) a
+
+  -- the account of m, which exists, is even with another count or tally
+  evened : (n : ℕ) → Made s n → (c : ℕ) (u : Tally) → u .start + u .released ≡ c + (u .atOnce + u .polled + u .handed) → Account c (maximum s n) u
+  evened n made c u even = record { even = even; none = λ z. absurd (omega (arith, made .made)) }
+
+  serving : (n : ℕ) → Made s n → 1 ≤ firstOf (s .waits) n → Kept (moved (firstOf (s .waits) n) (ended (task s (firstOf (s .waits) n)) served 0) s) m
+      (entered m (Tallies.release n) (ends s (moved (firstOf (s .waits) n) (ended (task s (firstOf (s .waits) n)) served 0) s) m 24) t)
+  serving n made some = go (same? n m)
+    where
+      z : State
+      z = moved (firstOf (s .waits) n) (ended (task s (firstOf (s .waits) n)) served 0) s
+
+      kept : Numbers s z
+      kept = numbers-moved s (firstOf (s .waits) n) (ended (task s (firstOf (s .waits) n)) served 0)
+
+      go : (n ≡ m) ⊎ (n ≡ m → ⊥) → Kept z m (cond (eqb n m) (withRelease t (ends s z m 24)) t)
+      go (inl y) =
+          let h : ends s z m 24 ≡ 1 = rw (← y) (one-is-served s k n (made .low) (made .top) some) in
+          rw (eq-eqb n m y) (stays z (kept .counts) (kept .maxima) (rw (← ap (maximum s) y) (evened n made (count s m) (withRelease t (ends s z m 24)) (omega (arith, a .even, h)))))
+      go (inr apart) = rw (ne-eqb n m apart) (numbers kept)
+
+  ticking : Kept (ticked s) m t
+  unfolding ticked
+  ticking = stays (lapsed 24 1 z) (b .counts ∙ c .2) (b .maxima ∙ c .3) a
+    where
+      z : State
+      z = charged (running s) (withTime ((s .time + 1) % 2 ^ 32) s)
+
+      b : Numbers z (lapsed 24 1 z)
+      b = numbers-lapsed 24 1 z
+
+      c : (z .tasks ≡ s .tasks) × (z .waits ≡ s .waits) × (z .counts ≡ s .counts) × (z .maxima ≡ s .maxima)
+      c = tasks-charged (withTime ((s .time + 1) % 2 ^ 32) s) (running s)
+
+  deleting : (n : ℕ) → n ≤ 12 → Kept (deleted n s) m (cond (eqb n m) noTally t)
+  unfolding deleted
+  deleting n top =
+      let b = numbers-told Deleted (waiters s n) s in
+      counting (toldAll Deleted (waiters s n) s) (b .counts) (b .maxima) n 0 0 noTally top (λ _. record { even = refl; none = λ _. refl })
+
+  taking : {i : Entry} (n : ℕ) → Made s n → 1 ≤ count s n → Takes n i → (h : ℕ) → Kept (counted n (count s n - 1) (maximum s n) s) m (entered m i h t)
+  taking n made left atOnce h = counting s refl refl n (count s n - 1) (maximum s n) (withAtOnce t) (made .top) (λ y. evened n made (count s n - 1) (withAtOnce t) (omega (arith, a .even, ap (count s) y)))
+  taking n made left byPoll h = counting s refl refl n (count s n - 1) (maximum s n) (withPolled t) (made .top) (λ y. evened n made (count s n - 1) (withPolled t) (omega (arith, a .even, ap (count s) y)))
+
+  raising : (n : ℕ) → Made s n → firstOf (s .waits) n ≡ 0 → Kept (counted n (count s n + 1) (maximum s n) s) m (entered m (Tallies.release n) (ends s (counted n (count s n + 1) (maximum s n) s) m 24) t)
+  raising n made free = counting s refl refl n (count s n + 1) (maximum s n) (withRelease t (ends s z m 24)) (made .top) (λ y.
+      let h : ends s z m 24 ≡ 0 = rw (← y) (nobody-is-served s k n (made .low) (made .top) z free) in
+      evened n made (count s n + 1) (withRelease t (ends s z m 24)) (omega (arith, a .even, ap (count s) y, h)))
+    where
+      z : State
+      z = counted n (count s n + 1) (maximum s n) s
+
+  after : {j : Kind} {i : Entry} {p : Plan} → Way s j i p → Kept (carried s (p .effect)) m (cond (isZero (number (p .code))) (entered m i (ends s (carried s (p .effect)) m 24) t) t)
+  unfolding carried sliced flagged toldFlag
+  after (Ways.refuses c n) = rw (refused-not (number c) n) a
+  after Ways.ticks = ticking
+  after (Ways.exits runs) = numbers (numbers-stopped s (running s))
+  after (Ways.terminates u) = numbers (numbers-stopped s u)
+  after (Ways.forces u) = numbers (numbers-moved s u (ended (task s u) released 0))
+  after (Ways.slices l v) = stays (sliced l v s) refl refl a
+  after (Ways.serves n made first) = serving n made first
+  after (Ways.raises n made free) = raising n made free
+  after (Ways.deletes n made) = deleting n (made .top)
+  after Ways.keeps = a
+  after (Ways.creates n v w low top made) = counting s refl refl n v w (begun v) top (λ _. record { even = omega arith; none = λ z. absurd (omega arith) })
+  after (Ways.takes n made left e) = taking n made left e _
+  after (Ways.flags v f b c) = stays (flagged f b c s) refl refl a
+  after (Ways.tells f w b c low top) = let z = numbers-told w (waiters s (flagRow f)) s in stays (flagged f b c (toldAll w (waiters s (flagRow f)) s)) (z .counts) (z .maxima) a
+  after {j} {i} (Ways.moves c u x n silent keeps) = rw (not-entered (isZero (number c)) m i (ends s (moved u x s) m 24) t silent) (numbers (numbers-moved s u x))
+
+-- ---- any calls
+accounts : (m : ℕ) (calls : List (Context × Call)) (s : State) (t : Tally) → Sound s → Kept s m t → Kept (reachedBy step s calls) m (tally step m s calls t)
+unfolding step reachedBy tally
+accounts m [] s t k a = a
+accounts m (c ∷ rest) s t k a =
+    accounts m rest (step s (c .0) (c .1) .state) (tallied m s (c .1) (step s (c .0) (c .1)) t) (sound-stays-sound s (c .0) (c .1) k) (after s k m t a (way s (c .0) (c .1)))
+
+from-fresh : (m : ℕ) (calls : List (Context × Call)) → Kept (reachedBy step fresh calls) m (tally step m fresh calls noTally)
+from-fresh m calls = accounts m calls fresh noTally fresh-is-sound (record { even = omega (arith, reads {A = ℕ} 13 0 m); none = λ _. refl })
+
+pub every-resource : EveryResource step
+every-resource calls m made = from-fresh m calls .even
+
+pub none-without : NoneWithout step
+none-without calls m free = from-fresh m calls .none (none-of (maximum (reachedBy step fresh calls) m) free)
+
+-- ---- the checked call, which answers as `step` does as long as the state is sound
+call-is-step : (s : State) (c : Context) (a : Call) → Sound s → call s c a ≡ step s c a
+unfolding call
+call-is-step s c a k = rw (sound-exactly s .1 k)
+
+reached-called : (calls : List (Context × Call)) (s : State) → Sound s → reachedBy call s calls ≡ reachedBy step s calls
+unfolding reachedBy
+reached-called [] s k = refl
+reached-called (c ∷ rest) s k = rw (call-is-step s (c .0) (c .1) k) (reached-called rest (step s (c .0) (c .1) .state) (sound-stays-sound s (c .0) (c .1) k))
+
+tally-called : (m : ℕ) (calls : List (Context × Call)) (s : State) (t : Tally) → Sound s → tally call m s calls t ≡ tally step m s calls t
+unfolding tally
+tally-called m [] s t k = refl
+tally-called m (c ∷ rest) s t k =
+    rw (call-is-step s (c .0) (c .1) k) (tally-called m rest (step s (c .0) (c .1) .state) (tallied m s (c .1) (step s (c .0) (c .1)) t) (sound-stays-sound s (c .0) (c .1) k))
+
+pub every-resource-called : EveryResource call
+every-resource-called calls m made =
+    rw (reached-called calls fresh fresh-is-sound, tally-called m calls fresh noTally fresh-is-sound) (from-fresh m calls .even)
+
+pub none-without-called : NoneWithout call
+none-without-called calls m free =
+    rw (tally-called m calls fresh noTally fresh-is-sound) (none-without calls m (rw (reached-called calls fresh fresh-is-sound) at free))

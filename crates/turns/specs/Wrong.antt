@@ -1,0 +1,42 @@
+-- Two kernels that lose count of resources: each is `step` of model, wrong in the one way that its name says.
+-- proofs/Refuted shows that EveryResource is false of both.
+use mathlib.Core.Bool.{Bool, true, false, cond}
+use Prim.Native.Nat.{ℕ, _+_}
+use lib.Dec.{eqb}
+use Rattle.model.specs.declared.State.{State}
+use Rattle.model.specs.declared.Answer.{Answer}
+use Rattle.model.specs.State.{count, maximum, counted}
+use Rattle.model.specs.Call.{step}
+use Rattle.turns.specs.Tally.{Kernel, Entry, creation, deletion, release, acquisition, poll, none, entry, ends}
+
+-- the answer, with another state
+abbrev pub withState : Answer → State → Answer
+withState r s = record { code = r .code; running = r .running; value = r .value; state = s }
+
+-- the semaphore that a call releases, else 0
+abbrev pub releasedBy : Entry → ℕ
+releasedBy (creation m n) = 0
+releasedBy (deletion m) = 0
+releasedBy (release m) = m
+releasedBy (acquisition m) = 0
+releasedBy (poll m) = 0
+releasedBy none = 0
+
+abbrev pub isPoll : Entry → Bool
+isPoll (creation m n) = false
+isPoll (deletion m) = false
+isPoll (release m) = false
+isPoll (acquisition m) = false
+isPoll (poll m) = true
+isPoll none = false
+
+-- a release raises the count as well as waking a waiter
+abbrev pub raisesToo : Kernel
+raisesToo s c a =
+    let r = step s c a in
+    let m = releasedBy (entry a) in
+    cond (eqb m 0) r (withState r (counted m (count (r .state) m + ends s (r .state) m 24) (maximum (r .state) m) (r .state)))
+
+-- a poll answers as it should and takes nothing
+abbrev pub pollsForNothing : Kernel
+pollsForNothing s c a = let r = step s c a in cond (isPoll (entry a)) (withState r s) r
