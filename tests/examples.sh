@@ -64,7 +64,7 @@ both() {
     ' "examples/$1.csv"
 }
 
-for name in worked hold-until-key round-robin mistakes/refused-calls mistakes/refused-flags; do
+for name in worked hold-until-key round-robin account mistakes/refused-calls mistakes/refused-flags; do
     both "$name" table >"$work/rows"
     awk -v file="\`examples/$name.csv\`" '
         /^#/ { on = index($0, file) }
@@ -73,6 +73,22 @@ for name in worked hold-until-key round-robin mistakes/refused-calls mistakes/re
 done
 both worked columns >"$work/rows"
 sed -n '/^    ctx,service,a,b,c  /,/^$/p' README.md | sed '/^$/d' | cmp -s - "$work/rows" || differs "README.md shows another worked list"
+# each line with the account after it, computed in crates/turns/proofs/Pages.antt and shown on the page
+awk '
+    /^example =$/ { on = 1 }
+    /^    \[\]$/ { on = 0 }
+    on && sub(/^ *after /, "") {
+        gsub(/∷|\[\]|[()]/, " ")
+        name = $2
+        gsub(/[A-Z]/, "_&", name)
+        call = ($1 == "byTask" ? "T" : "I") ",tn" tolower(name)
+        for (i = 3; i <= 5; i++) call = call "," (i <= NF - 6 ? $i : "")
+        at = NF - 6
+        print "`" call "` " $(at + 1) " + " $(at + 2) " = " $(at + 3) " + " $(at + 4) " + " $(at + 5) " + " $(at + 6)
+    }
+' crates/turns/proofs/Pages.antt >"$work/rows"
+awk -F ' [|] ' '/^#/ { on = index($0, "`examples/account.csv`") } on && /^\| [0-9]/ { print $2 " " $4 }' docs/EXAMPLES.md >"$work/page"
+[ -s "$work/rows" ] && cmp -s "$work/page" "$work/rows" || differs "docs/EXAMPLES.md shows other accounts than crates/turns/proofs/Pages.antt"
 for list in examples/mistakes/*.csv; do
     name=$(basename "$list" .csv)
     number=$(sed 1q "${list%.csv}.answer" | tr -d '\r')

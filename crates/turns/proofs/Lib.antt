@@ -1,5 +1,5 @@
 pub mod Words
-pub mod Rows
+pub mod Pages
 pub mod Places
 pub mod Ways
 pub mod Still

@@ -1,5 +1,5 @@
--- EveryResource is false of the two kernels of specs/Wrong: after the calls of the ledger's first row the accounts are not even.
--- Both runs are computed over the definitions of model, as the rows are.
+-- EveryResource is false of the two kernels of specs/Wrong: after the calls that take and release in every way, the accounts are not even.
+-- Both runs are computed over the definitions of model, as the pages are.
 use mathlib.Core.Path.{_≡_}
 use Prim.Native.Nat.{ℕ}
 use native.Mathlib.Omega.{arith}
@@ -8,7 +8,7 @@ use Rattle.model.proofs.Words.{opened}
 use Rattle.turns.specs.Tally.{reachedBy, ends, tally}
 use Rattle.turns.specs.Statements.{EveryResource}
 use Rattle.turns.specs.Wrong.{raisesToo, pollsForNothing}
-use Rattle.turns.proofs.Rows.{everyTerm}
+use Rattle.turns.proofs.Pages.{everyTerm}
 
 -- 2 + 2 is not 2 + (1 + 1 + 1)
 pub raising-too-is-refuted : EveryResource raisesToo → ⊥

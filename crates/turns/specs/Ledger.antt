@@ -1,7 +1,7 @@
--- The form of a ledger row: calls from the fresh state, and what a semaphore's tally and count must then be.
--- It rests on the tally of Tally; the rows themselves stand in proofs/Rows.
+-- The form of a ledger: one semaphore's account, written after each of some calls. A page agrees if the tally says the same.
+-- It rests on the tally of Tally; the pages themselves stand in proofs/Pages.
 use mathlib.Core.Bool.{Bool, true, _&&_}
-use mathlib.Core.List.{List, [], _∷_}
+use mathlib.Core.List.{List, [], _∷_, _++_}
 use Prim.Native.Nat.{ℕ}
 use Rattle.model.specs.declared.State.{State}
 use Rattle.model.specs.declared.Context.{Context}
@@ -11,22 +11,32 @@ use Rattle.model.specs.Call.{step}
 use Rattle.model.specs.Bench.{sameList}
 use Rattle.turns.specs.Tally.{Kernel, reachedBy, Tally, noTally, tally}
 
+-- a call, and the account after it: start value, successful releases; present count, taken at once, taken by poll, handed to a waiter
 pub record Line : Type 0 where
-  pub calls : List (Context × Call)
-  pub semaphore : ℕ
-  pub sums : List ℕ
+  pub call : Context × Call
+  pub account : List ℕ
 
+-- the account of one semaphore, and the calls that were made before its first line
+pub record Page : Type 0 where
+  pub semaphore : ℕ
+  pub given : List (Context × Call)
+  pub lines : List Line
+
+-- ---- does a page agree?
 -- the kernel that answers
 abbrev pub kernel : Kernel
 kernel = step
 
--- start value, successful releases; present count, taken at once, taken by poll, handed to a waiter
-abbrev pub sumsOf : State → ℕ → Tally → List ℕ
-sumsOf s m t = t .start ∷ t .released ∷ count s m ∷ t .atOnce ∷ t .polled ∷ t .handed ∷ []
+abbrev pub accountOf : State → ℕ → Tally → List ℕ
+accountOf s m t = t .start ∷ t .released ∷ count s m ∷ t .atOnce ∷ t .polled ∷ t .handed ∷ []
 
-abbrev pub agrees : Line → Bool
-agrees r = sameList (sumsOf (reachedBy kernel fresh (r .calls)) (r .semaphore) (tally kernel (r .semaphore) fresh (r .calls) noTally)) (r .sums)
+abbrev pub accountAfter : List (Context × Call) → ℕ → List ℕ
+accountAfter calls m = accountOf (reachedBy kernel fresh calls) m (tally kernel m fresh calls noTally)
 
-unfoldable pub allAgree : List Line → Bool
+unfoldable pub agrees : ℕ → List (Context × Call) → List Line → Bool
+agrees m given [] = true
+agrees m given (l ∷ rest) = let calls = given ++ (l .call ∷ []) in sameList (accountAfter calls m) (l .account) && agrees m calls rest
+
+unfoldable pub allAgree : List Page → Bool
 allAgree [] = true
-allAgree (r ∷ rest) = agrees r && allAgree rest
+allAgree (p ∷ rest) = agrees (p .semaphore) (p .given) (p .lines) && allAgree rest
