@@ -31,7 +31,7 @@ use Rattle.kept.proofs.Kept.{fresh-is-sound, sound-stays-sound}
 use Rattle.tested.proofs.Same.{sound-exactly}
 use Rattle.turns.specs.Kind.{Kind}
 use Rattle.turns.specs.Tally as Tallies
-use Rattle.turns.specs.Tally.{reachedBy, Entry, none, isZero, ends, Tally, begun, noTally, withRelease, withAtOnce, withPolled, entered, tallied, tally}
+use Rattle.turns.specs.Tally.{reachedBy, Entry, none, isZero, waitsEnded, Tally, begun, noTally, withRelease, withAtOnce, withPolled, entered, tallied, tally}
 use Rattle.turns.specs.Statements.{Balanced, EveryResource, NoneWithout}
 use Rattle.turns.proofs.Ways as Ways
 use Rattle.turns.proofs.Ways.{Made, Takes, atOnce, byPoll, Way, way}
@@ -82,7 +82,7 @@ module _ (s : State) (k : Sound s) (m : ℕ) (t : Tally) (a : Kept s m t) where
   evened n made c u even = record { even = even; none = λ z. absurd (omega (arith, made .made)) }
 
   serving : (n : ℕ) → Made s n → 1 ≤ firstOf (s .waits) n → Kept (moved (firstOf (s .waits) n) (ended (task s (firstOf (s .waits) n)) served 0) s) m
-      (entered m (Tallies.release n) (ends s (moved (firstOf (s .waits) n) (ended (task s (firstOf (s .waits) n)) served 0) s) m 24) t)
+      (entered m (Tallies.release n) (waitsEnded s (moved (firstOf (s .waits) n) (ended (task s (firstOf (s .waits) n)) served 0) s) m 24) t)
   serving n made some = go (same? n m)
     where
       z : State
@@ -91,10 +91,10 @@ module _ (s : State) (k : Sound s) (m : ℕ) (t : Tally) (a : Kept s m t) where
       kept : Numbers s z
       kept = numbers-moved s (firstOf (s .waits) n) (ended (task s (firstOf (s .waits) n)) served 0)
 
-      go : (n ≡ m) ⊎ (n ≡ m → ⊥) → Kept z m (cond (eqb n m) (withRelease t (ends s z m 24)) t)
+      go : (n ≡ m) ⊎ (n ≡ m → ⊥) → Kept z m (cond (eqb n m) (withRelease t (waitsEnded s z m 24)) t)
       go (inl y) =
-          let h : ends s z m 24 ≡ 1 = rw (← y) (one-is-served s k n (made .low) (made .top) some) in
-          rw (eq-eqb n m y) (stays z (kept .counts) (kept .maxima) (rw (← ap (maximum s) y) (evened n made (count s m) (withRelease t (ends s z m 24)) (omega (arith, a .even, h)))))
+          let h : waitsEnded s z m 24 ≡ 1 = rw (← y) (one-is-served s k n (made .low) (made .top) some) in
+          rw (eq-eqb n m y) (stays z (kept .counts) (kept .maxima) (rw (← ap (maximum s) y) (evened n made (count s m) (withRelease t (waitsEnded s z m 24)) (omega (arith, a .even, h)))))
       go (inr apart) = rw (ne-eqb n m apart) (numbers kept)
 
   ticking : Kept (ticked s) m t
@@ -120,15 +120,15 @@ module _ (s : State) (k : Sound s) (m : ℕ) (t : Tally) (a : Kept s m t) where
   taking n made left atOnce h = counting s refl refl n (count s n - 1) (maximum s n) (withAtOnce t) (made .top) (λ y. evened n made (count s n - 1) (withAtOnce t) (omega (arith, a .even, ap (count s) y)))
   taking n made left byPoll h = counting s refl refl n (count s n - 1) (maximum s n) (withPolled t) (made .top) (λ y. evened n made (count s n - 1) (withPolled t) (omega (arith, a .even, ap (count s) y)))
 
-  raising : (n : ℕ) → Made s n → firstOf (s .waits) n ≡ 0 → Kept (counted n (count s n + 1) (maximum s n) s) m (entered m (Tallies.release n) (ends s (counted n (count s n + 1) (maximum s n) s) m 24) t)
-  raising n made free = counting s refl refl n (count s n + 1) (maximum s n) (withRelease t (ends s z m 24)) (made .top) (λ y.
-      let h : ends s z m 24 ≡ 0 = rw (← y) (nobody-is-served s k n (made .low) (made .top) z free) in
-      evened n made (count s n + 1) (withRelease t (ends s z m 24)) (omega (arith, a .even, ap (count s) y, h)))
+  raising : (n : ℕ) → Made s n → firstOf (s .waits) n ≡ 0 → Kept (counted n (count s n + 1) (maximum s n) s) m (entered m (Tallies.release n) (waitsEnded s (counted n (count s n + 1) (maximum s n) s) m 24) t)
+  raising n made free = counting s refl refl n (count s n + 1) (maximum s n) (withRelease t (waitsEnded s z m 24)) (made .top) (λ y.
+      let h : waitsEnded s z m 24 ≡ 0 = rw (← y) (nobody-is-served s k n (made .low) (made .top) z free) in
+      evened n made (count s n + 1) (withRelease t (waitsEnded s z m 24)) (omega (arith, a .even, ap (count s) y, h)))
     where
       z : State
       z = counted n (count s n + 1) (maximum s n) s
 
-  after : {j : Kind} {i : Entry} {p : Plan} → Way s j i p → Kept (carried s (p .effect)) m (cond (isZero (number (p .code))) (entered m i (ends s (carried s (p .effect)) m 24) t) t)
+  after : {j : Kind} {i : Entry} {p : Plan} → Way s j i p → Kept (carried s (p .effect)) m (cond (isZero (number (p .code))) (entered m i (waitsEnded s (carried s (p .effect)) m 24) t) t)
   unfolding carried sliced flagged toldFlag
   after (Ways.refuses c n) = rw (refused-not (number c) n) a
   after Ways.ticks = ticking
@@ -144,7 +144,7 @@ module _ (s : State) (k : Sound s) (m : ℕ) (t : Tally) (a : Kept s m t) where
   after (Ways.takes n made left e) = taking n made left e _
   after (Ways.flags v f b c) = stays (flagged f b c s) refl refl a
   after (Ways.tells f w b c low top) = let z = numbers-told w (waiters s (flagRow f)) s in stays (flagged f b c (toldAll w (waiters s (flagRow f)) s)) (z .counts) (z .maxima) a
-  after {j} {i} (Ways.moves c u x n silent keeps) = rw (not-entered (isZero (number c)) m i (ends s (moved u x s) m 24) t silent) (numbers (numbers-moved s u x))
+  after {j} {i} (Ways.moves c u x n silent keeps) = rw (not-entered (isZero (number c)) m i (waitsEnded s (moved u x s) m 24) t silent) (numbers (numbers-moved s u x))
 
 -- ---- any calls
 accounts : (m : ℕ) (calls : List (Context × Call)) (s : State) (t : Tally) → Sound s → Kept s m t → Kept (reachedBy step s calls) m (tally step m s calls t)

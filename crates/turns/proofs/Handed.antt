@@ -1,5 +1,5 @@
 -- Whose wait on a semaphore ends with 0 at a release of it: one task's if somebody waits, and nobody's else.
--- It goes by the definition of `ends` in specs/Tally, and by who stands first among the waiters of a sound state (kept).
+-- It goes by the definition of `waitsEnded` in specs/Tally, and by who stands first among the waiters of a sound state (kept).
 use mathlib.Core.Path.{_≡_, refl, sym, ap, _∙_}
 use mathlib.Core.Bool.{Bool, true, false, not, _&&_}
 use mathlib.Core.Logic.{_⊎_, inl, inr, ⊎-elim}
@@ -19,22 +19,22 @@ use Rattle.laws.proofs.Record.{row-waits}
 use Rattle.kept.proofs.Listed.{key-first}
 use Rattle.kept.proofs.Told.{waiter-in}
 use Rattle.kept.proofs.Shape.{no-waiter}
-use Rattle.turns.specs.Tally.{endsWith0, ends}
+use Rattle.turns.specs.Tally.{endsWith0, waitsEnded}
 use Rattle.turns.proofs.Still.{task-kept, task-moved}
 
 -- ---- how many end, by who does
 module _ (s s′ : State) (m : ℕ) where
-  ends-none : (n : ℕ) → ((t : ℕ) → t ≤ n → endsWith0 s s′ m t ≡ false) → ends s s′ m n ≡ 0
-  unfolding ends
-  ends-none zero none = refl
-  ends-none (suc n) none = rw (none (suc n) (omega arith)) (omega (arith, ends-none n (λ t low. none t (omega arith))))
+  ended-none : (n : ℕ) → ((t : ℕ) → t ≤ n → endsWith0 s s′ m t ≡ false) → waitsEnded s s′ m n ≡ 0
+  unfolding waitsEnded
+  ended-none zero none = refl
+  ended-none (suc n) none = rw (none (suc n) (omega arith)) (omega (arith, ended-none n (λ t low. none t (omega arith))))
 
-  ends-one : (n u : ℕ) → 1 ≤ u → u ≤ n → endsWith0 s s′ m u ≡ true → ((t : ℕ) → (u ≡ t → ⊥) → endsWith0 s s′ m t ≡ false) → ends s s′ m n ≡ 1
-  unfolding ends
-  ends-one zero u some low here others = absurd (omega arith)
-  ends-one (suc n) u some low here others = ⊎-elim
-      (λ (e : u ≡ suc n). rw (← e, here) (omega (arith, ends-none n (λ t top. others t (λ z. omega arith)))))
-      (λ (apart : u ≡ suc n → ⊥). rw (others (suc n) apart) (omega (arith, ends-one n u some (omega arith) here others)))
+  ended-one : (n u : ℕ) → 1 ≤ u → u ≤ n → endsWith0 s s′ m u ≡ true → ((t : ℕ) → (u ≡ t → ⊥) → endsWith0 s s′ m t ≡ false) → waitsEnded s s′ m n ≡ 1
+  unfolding waitsEnded
+  ended-one zero u some low here others = absurd (omega arith)
+  ended-one (suc n) u some low here others = ⊎-elim
+      (λ (e : u ≡ suc n). rw (← e, here) (omega (arith, ended-none n (λ t top. others t (λ z. omega arith)))))
+      (λ (apart : u ≡ suc n → ⊥). rw (others (suc n) apart) (omega (arith, ended-one n u some (omega arith) here others)))
       (same? u (suc n))
 
 -- who still waits on m has not ended
@@ -47,8 +47,8 @@ waits-on x m some b = ⊎-elim
 -- ---- at a release
 module _ (s : State) (k : Sound s) (m : ℕ) (low : 1 ≤ m) (top : m ≤ 12) where
   -- the first waiter's wait ends, and no other's
-  pub one-is-served : 1 ≤ firstOf (s .waits) m → ends s (moved (firstOf (s .waits) m) (ended (task s (firstOf (s .waits) m)) served 0) s) m 24 ≡ 1
-  one-is-served some = ends-one s (moved u x s) m 24 u some (waits .1) here others
+  pub one-is-served : 1 ≤ firstOf (s .waits) m → waitsEnded s (moved (firstOf (s .waits) m) (ended (task s (firstOf (s .waits) m)) served 0) s) m 24 ≡ 1
+  one-is-served some = ended-one s (moved u x s) m 24 u some (waits .1) here others
     where
       u : ℕ
       u = firstOf (s .waits) m
@@ -69,5 +69,5 @@ module _ (s : State) (k : Sound s) (m : ℕ) (low : 1 ≤ m) (top : m ≤ 12) wh
       others t apart = rw (task-kept s u x t apart) (waits-on (task s t) m low (eqb (task s t .code) served))
 
   -- where nobody waits, none ends
-  pub nobody-is-served : (s′ : State) → firstOf (s .waits) m ≡ 0 → ends s s′ m 24 ≡ 0
-  nobody-is-served s′ free = ends-none s s′ m 24 (λ t _. rw (ne-eqb (rowOf (task s t)) m (no-waiter s k m low (omega arith) free t)))
+  pub nobody-is-served : (s′ : State) → firstOf (s .waits) m ≡ 0 → waitsEnded s s′ m 24 ≡ 0
+  nobody-is-served s′ free = ended-none s s′ m 24 (λ t _. rw (ne-eqb (rowOf (task s t)) m (no-waiter s k m low (omega arith) free t)))

@@ -9,7 +9,7 @@ use Rattle.model.specs.declared.Call.{Call}
 use Rattle.model.specs.declared.Call.the-variants.{TaskCreate, TaskDelete, TaskActivate, TaskExit, TaskTerminate, TaskSuspend, TaskReleaseWait, SemCreate, SemDelete, SemSignal, SemIsignal, SemAcquire, SemPolling, SemIpolling}
 use Rattle.model.specs.State.{fresh}
 use Rattle.model.proofs.Words.{opened}
-use Rattle.turns.specs.Tally.{reachedBy, ends, tally}
+use Rattle.turns.specs.Tally.{reachedBy, waitsEnded, tally}
 use Rattle.turns.specs.Ledger.{Line, Page, kernel, agrees, allAgree}
 use Rattle.turns.proofs.Words.{byTask, byInterrupt, aTick}
 
@@ -82,10 +82,10 @@ pages =
     []
 
 pub pages-agree : T (allAgree pages)
-unfolding opened example everyTerm oneWaits activated pages reachedBy tally ends agrees allAgree
+unfolding opened example everyTerm oneWaits activated pages reachedBy tally waitsEnded agrees allAgree
 pages-agree = tt
 
 -- the records before and after that termination say what a served waiter's say: it waited, and now waits for nothing, with code 0
-pub looks-served : ends (reachedBy kernel fresh activated) (reachedBy kernel fresh terminated) 1 24 ≡ 1
-unfolding opened oneWaits activated terminated reachedBy ends
+pub looks-served : waitsEnded (reachedBy kernel fresh activated) (reachedBy kernel fresh terminated) 1 24 ≡ 1
+unfolding opened oneWaits activated terminated reachedBy waitsEnded
 looks-served = refl

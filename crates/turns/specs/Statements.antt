@@ -141,7 +141,8 @@ TurnsComeRound = (s : State) (calls : List (Context × Call)) (l t q v : ℕ)
     → FirstBy l t ((q - 1) * v) s calls
 
 -- ---- C: through any calls from the fresh state, of each semaphore that then exists, since its latest creation: start value plus
--- successful releases equals present count plus resources taken, at once, by poll or handed to a waiter
+-- successful releases equals present count plus resources taken, at once, by poll or handed to a waiter. It is said of any kernel k,
+-- proved of `step` and of the checked `call`, and false of the two in Wrong
 abbrev pub exists : State → ℕ → Bool
 exists s m = isMade (semaphore s m)
 

@@ -69,9 +69,9 @@ abbrev pub endsWith0 : State → State → ℕ → ℕ → Bool
 endsWith0 s s′ m t = eqb (rowOf (task s t)) m && (not (isWaiting (task s′ t)) && eqb (task s′ t .code) served)
 
 -- of how many of the tasks 1 to n that is so
-unfoldable pub ends : State → State → ℕ → ℕ → ℕ
-ends s s′ m zero = 0
-ends s s′ m (suc n) = one (endsWith0 s s′ m (suc n)) + ends s s′ m n
+unfoldable pub waitsEnded : State → State → ℕ → ℕ → ℕ
+waitsEnded s s′ m zero = 0
+waitsEnded s s′ m (suc n) = one (endsWith0 s s′ m (suc n)) + waitsEnded s s′ m n
 
 -- ---- the tally
 pub record Tally : Type 0 where
@@ -92,9 +92,11 @@ noTally = begun 0
 abbrev pub withRelease : Tally → ℕ → Tally
 withRelease t h = record { start = t .start; released = t .released + 1; atOnce = t .atOnce; polled = t .polled; handed = t .handed + h }
 
+-- a resource taken at once
 abbrev pub withAtOnce : Tally → Tally
 withAtOnce t = record { start = t .start; released = t .released; atOnce = t .atOnce + 1; polled = t .polled; handed = t .handed }
 
+-- and one by poll
 abbrev pub withPolled : Tally → Tally
 withPolled t = record { start = t .start; released = t .released; atOnce = t .atOnce; polled = t .polled + 1; handed = t .handed }
 
@@ -110,7 +112,7 @@ entered m none h t = t
 
 -- a call answered with 0 is entered; one that is refused is not, nor an acquire that waits
 abbrev pub tallied : ℕ → State → Call → Answer → Tally → Tally
-tallied m s a r t = cond (isZero (number (r .code))) (entered m (entry a) (ends s (r .state) m 24) t) t
+tallied m s a r t = cond (isZero (number (r .code))) (entered m (entry a) (waitsEnded s (r .state) m 24) t) t
 
 -- through a list of calls, from a state and a tally
 unfoldable pub tally : Kernel → ℕ → State → List (Context × Call) → Tally → Tally

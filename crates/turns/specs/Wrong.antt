@@ -7,7 +7,7 @@ use Rattle.model.specs.declared.State.{State}
 use Rattle.model.specs.declared.Answer.{Answer}
 use Rattle.model.specs.State.{count, maximum, counted}
 use Rattle.model.specs.Call.{step}
-use Rattle.turns.specs.Tally.{Kernel, Entry, creation, deletion, release, acquisition, poll, none, entry, ends}
+use Rattle.turns.specs.Tally.{Kernel, Entry, creation, deletion, release, acquisition, poll, none, entry, waitsEnded}
 
 -- the answer, with another state
 abbrev pub withState : Answer → State → Answer
@@ -35,7 +35,7 @@ abbrev pub raisesToo : Kernel
 raisesToo s c a =
     let r = step s c a in
     let m = releasedBy (entry a) in
-    cond (eqb m 0) r (withState r (counted m (count (r .state) m + ends s (r .state) m 24) (maximum (r .state) m) (r .state)))
+    cond (eqb m 0) r (withState r (counted m (count (r .state) m + waitsEnded s (r .state) m 24) (maximum (r .state) m) (r .state)))
 
 -- a poll answers as it should and takes nothing
 abbrev pub pollsForNothing : Kernel

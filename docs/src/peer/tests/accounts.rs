@@ -75,7 +75,10 @@ fn every_resource_is_accounted_for() {
                     looked_served += ended;
                 }
                 let count = reply.state.counts[m];
-                assert!(tally.is_even(count), "seed {seed}, after call {number}, {call}: the account of {m} is not even");
+                assert!(
+                    tally.is_even(count),
+                    "seed {seed}, after call {number}, {call}: the account of {m} is not even"
+                );
                 let terms = [tally.start, tally.released, u64::from(count), tally.at_once, tally.polled, tally.handed];
                 every_term += u32::from(terms.iter().all(|&term| term > 0));
                 let fooled = Tally { handed: tally.handed + tally.fooled, ..*tally };
