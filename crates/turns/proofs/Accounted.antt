@@ -1,7 +1,7 @@
 -- Part C of specs/Statements: every resource is accounted for, whatever is called, by `step` as by the checked `call`.
 -- It goes by the ways of the plans (Ways), the numbers that moves leave alone (Numbers) and who is served at a release (Handed).
 use mathlib.Core.Path.{_≡_, refl, sym, ap, _∙_}
-use mathlib.Core.Bool.{Bool, true, false, cond, not}
+use mathlib.Core.Bool.{Bool, true, false, cond}
 use mathlib.Core.List.{List, [], _∷_}
 use mathlib.Core.Logic.{_⊎_, inl, inr}
 use Prim.Native.Nat.{ℕ, _+_, _-_, _≤_, _%_, _^_}
@@ -32,7 +32,7 @@ use Rattle.tested.proofs.Same.{sound-exactly}
 use Rattle.turns.specs.Kind.{Kind}
 use Rattle.turns.specs.Tally as Tallies
 use Rattle.turns.specs.Tally.{reachedBy, Entry, none, isZero, waitsEnded, Tally, begun, noTally, withRelease, withAtOnce, withPolled, entered, tallied, tally}
-use Rattle.turns.specs.Statements.{Balanced, EveryResource, NoneWithout}
+use Rattle.turns.specs.Statements.{EveryResource, NoneWithout}
 use Rattle.turns.proofs.Ways as Ways
 use Rattle.turns.proofs.Ways.{Made, Takes, atOnce, byPoll, Way, way}
 use Rattle.turns.proofs.Still.{tasks-charged}

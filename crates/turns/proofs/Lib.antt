@@ -16,3 +16,4 @@ pub mod Instances
 pub mod Handed
 pub mod Accounted
 pub mod Refuted
+pub mod Releases

@@ -11,13 +11,13 @@ use Rattle.model.specs.declared.Call.{Call}
 use Rattle.model.specs.Row.{place, firstOf}
 use Rattle.model.specs.Task.{nothing, served, timeout, dlt, released, isRunnable, levelOf, rowOf}
 use Rattle.model.specs.State.{fresh, task, slice, count, level, waiters, semaphore, running}
-use Rattle.model.specs.Code.{isRefusal}
+use Rattle.model.specs.Code.{number, isRefusal}
 use Rattle.model.specs.Plan.{isMade}
 use Rattle.model.specs.Call.{step}
 use Rattle.model.specs.Test.{one}
 use Rattle.model.specs.Sound.{Sound}
 use Rattle.turns.specs.Kind.{Kind, tick, terminate, forcedRelease, setSlice, deletion, kind, isTick, isReleaseOf}
-use Rattle.turns.specs.Tally.{Kernel, reachedBy, Tally, noTally, tally}
+use Rattle.turns.specs.Tally.{Kernel, reachedBy, entry, releasedBy, isZero, Tally, noTally, tally}
 
 -- ---- a call, with the context it comes from
 -- the state after it
@@ -159,3 +159,9 @@ abbrev pub NoneWithout : Kernel → Type 0
 NoneWithout k = (calls : List (Context × Call)) (m : ℕ)
     → T (not (exists (reachedBy k fresh calls) m))
     → tally k m fresh calls noTally ≡ noTally
+
+-- what is a successful release in A, accepted, is one in C, answered with 0
+abbrev pub SameReleases : Type 0
+SameReleases = (s : State) (a : Context × Call) (m : ℕ)
+    → 1 ≤ m
+    → isRelease s a m ≡ isZero (number (step s (a .0) (a .1) .code)) && eqb (releasedBy (entry (a .1))) m

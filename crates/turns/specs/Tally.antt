@@ -58,6 +58,15 @@ entry (SemPolling m) = poll m
 entry (SemIpolling m) = poll m
 entry (Event f e) = none
 
+-- the semaphore that it releases, else 0
+abbrev pub releasedBy : Entry → ℕ
+releasedBy (creation m n) = 0
+releasedBy (deletion m) = 0
+releasedBy (release m) = m
+releasedBy (acquisition m) = 0
+releasedBy (poll m) = 0
+releasedBy none = 0
+
 -- it is answered with 0
 abbrev pub isZero : ℤ → Bool
 isZero (pos n) = eqb n 0

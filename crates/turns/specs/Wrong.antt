@@ -7,20 +7,11 @@ use Rattle.model.specs.declared.State.{State}
 use Rattle.model.specs.declared.Answer.{Answer}
 use Rattle.model.specs.State.{count, maximum, counted}
 use Rattle.model.specs.Call.{step}
-use Rattle.turns.specs.Tally.{Kernel, Entry, creation, deletion, release, acquisition, poll, none, entry, waitsEnded}
+use Rattle.turns.specs.Tally.{Kernel, Entry, creation, deletion, release, acquisition, poll, none, entry, releasedBy, waitsEnded}
 
 -- the answer, with another state
 abbrev pub withState : Answer → State → Answer
 withState r s = record { code = r .code; running = r .running; value = r .value; state = s }
-
--- the semaphore that a call releases, else 0
-abbrev pub releasedBy : Entry → ℕ
-releasedBy (creation m n) = 0
-releasedBy (deletion m) = 0
-releasedBy (release m) = m
-releasedBy (acquisition m) = 0
-releasedBy (poll m) = 0
-releasedBy none = 0
 
 abbrev pub isPoll : Entry → Bool
 isPoll (creation m n) = false
