@@ -1,6 +1,6 @@
 #!/bin/sh
-# Holds every list under examples/ to its answer, byte for byte; the pages that show them to both; and ./play to runlist, with its
-# status and its words. Prints what differs, or one line if nothing does. It builds runlist if that is missing.
+# Holds every list under examples/ to its answer, byte for byte; the pages that show them to both, and to the computed accounts; and
+# ./play to runlist, with its status and its words. Prints what differs, or one line if nothing does. It builds runlist if that is missing.
 set -u
 LC_ALL=C
 export LC_ALL

@@ -26,13 +26,13 @@ use Rattle.model.specs.Call.{step, call}
 use Rattle.model.specs.Sound.{Sound}
 use Rattle.laws.proofs.Number.{same?}
 use Rattle.kept.proofs.Fresh.{reads}
-use Rattle.kept.proofs.Records.{some-of, none-of}
+use Rattle.kept.proofs.Records.{none-of}
 use Rattle.kept.proofs.Kept.{fresh-is-sound, sound-stays-sound}
 use Rattle.tested.proofs.Same.{sound-exactly}
 use Rattle.turns.specs.Kind.{Kind}
 use Rattle.turns.specs.Tally as Tallies
 use Rattle.turns.specs.Tally.{reachedBy, Entry, none, isZero, waitsEnded, Tally, begun, noTally, withRelease, withAtOnce, withPolled, entered, tallied, tally}
-use Rattle.turns.specs.Statements.{EveryResource, NoneWithout}
+use Rattle.turns.specs.Statements.{Balanced, EveryResource, NoneWithout}
 use Rattle.turns.proofs.Ways as Ways
 use Rattle.turns.proofs.Ways.{Made, Takes, atOnce, byPoll, Way, way}
 use Rattle.turns.proofs.Still.{tasks-charged}
@@ -42,7 +42,7 @@ use Rattle.turns.proofs.Handed.{one-is-served, nobody-is-served}
 -- what the theorem keeps from call to call, of a semaphore with count c and maximum v: its account is even, and none is kept of one
 -- that does not exist
 record Account (c v : ℕ) (t : Tally) : Type 0 where
-  even : t .start + t .released ≡ c + (t .atOnce + t .polled + t .handed)
+  even : Balanced t c
   none : v ≡ 0 → t ≡ noTally
 
 abbrev Kept : State → ℕ → Tally → Type 0
@@ -78,23 +78,26 @@ module _ (s : State) (k : Sound s) (m : ℕ) (t : Tally) (a : Kept s m t) where
       go (inr apart) = rw (ne-eqb n m apart, getD-set-other (s .counts) n m c 0 (λ y. apart (sym y)), getD-set-other (s .maxima) n m v 0 (λ y. apart (sym y))) a
 
   -- the account of m, which exists, is even with another count or tally
-  evened : (n : ℕ) → Made s n → (c : ℕ) (u : Tally) → u .start + u .released ≡ c + (u .atOnce + u .polled + u .handed) → Account c (maximum s n) u
+  evened : (n : ℕ) → Made s n → (c : ℕ) (u : Tally) → Balanced u c → Account c (maximum s n) u
   evened n made c u even = record { even = even; none = λ z. absurd (omega (arith, made .made)) }
 
-  serving : (n : ℕ) → Made s n → 1 ≤ firstOf (s .waits) n → Kept (moved (firstOf (s .waits) n) (ended (task s (firstOf (s .waits) n)) served 0) s) m
-      (entered m (Tallies.release n) (waitsEnded s (moved (firstOf (s .waits) n) (ended (task s (firstOf (s .waits) n)) served 0) s) m 24) t)
+  -- the first who waits on n is served
+  abbrev handsOver : ℕ → State
+  handsOver n = moved (firstOf (s .waits) n) (ended (task s (firstOf (s .waits) n)) served 0) s
+
+  serving : (n : ℕ) → Made s n → 1 ≤ firstOf (s .waits) n → Kept (handsOver n) m (entered m (Tallies.release n) (waitsEnded s (handsOver n) m 24) t)
   serving n made some = go (same? n m)
     where
-      z : State
-      z = moved (firstOf (s .waits) n) (ended (task s (firstOf (s .waits) n)) served 0) s
-
-      kept : Numbers s z
+      kept : Numbers s (handsOver n)
       kept = numbers-moved s (firstOf (s .waits) n) (ended (task s (firstOf (s .waits) n)) served 0)
 
-      go : (n ≡ m) ⊎ (n ≡ m → ⊥) → Kept z m (cond (eqb n m) (withRelease t (waitsEnded s z m 24)) t)
+      u : Tally
+      u = withRelease t (waitsEnded s (handsOver n) m 24)
+
+      go : (n ≡ m) ⊎ (n ≡ m → ⊥) → Kept (handsOver n) m (cond (eqb n m) u t)
       go (inl y) =
-          let h : waitsEnded s z m 24 ≡ 1 = rw (← y) (one-is-served s k n (made .low) (made .top) some) in
-          rw (eq-eqb n m y) (stays z (kept .counts) (kept .maxima) (rw (← ap (maximum s) y) (evened n made (count s m) (withRelease t (waitsEnded s z m 24)) (omega (arith, a .even, h)))))
+          let h : waitsEnded s (handsOver n) m 24 ≡ 1 = rw (← y) (one-is-served s k n (made .low) (made .top) some) in
+          rw (eq-eqb n m y) (stays (handsOver n) (kept .counts) (kept .maxima) (rw (← ap (maximum s) y) (evened n made (count s m) u (omega (arith, a .even, h)))))
       go (inr apart) = rw (ne-eqb n m apart) (numbers kept)
 
   ticking : Kept (ticked s) m t
@@ -116,9 +119,14 @@ module _ (s : State) (k : Sound s) (m : ℕ) (t : Tally) (a : Kept s m t) where
       let b = numbers-told Deleted (waiters s n) s in
       counting (toldAll Deleted (waiters s n) s) (b .counts) (b .maxima) n 0 0 noTally top (λ _. record { even = refl; none = λ _. refl })
 
+  -- n has a resource less, and u is t with one more taken
+  took : (n : ℕ) → Made s n → 1 ≤ count s n → (u : Tally) → u .start + u .released ≡ t .start + t .released
+      → u .atOnce + u .polled + u .handed ≡ t .atOnce + t .polled + t .handed + 1 → Kept (counted n (count s n - 1) (maximum s n) s) m (cond (eqb n m) u t)
+  took n made left u same more = counting s refl refl n (count s n - 1) (maximum s n) u (made .top) (λ y. evened n made (count s n - 1) u (omega (arith, a .even, ap (count s) y)))
+
   taking : {i : Entry} (n : ℕ) → Made s n → 1 ≤ count s n → Takes n i → (h : ℕ) → Kept (counted n (count s n - 1) (maximum s n) s) m (entered m i h t)
-  taking n made left atOnce h = counting s refl refl n (count s n - 1) (maximum s n) (withAtOnce t) (made .top) (λ y. evened n made (count s n - 1) (withAtOnce t) (omega (arith, a .even, ap (count s) y)))
-  taking n made left byPoll h = counting s refl refl n (count s n - 1) (maximum s n) (withPolled t) (made .top) (λ y. evened n made (count s n - 1) (withPolled t) (omega (arith, a .even, ap (count s) y)))
+  taking n made left atOnce h = took n made left (withAtOnce t) refl (omega arith)
+  taking n made left byPoll h = took n made left (withPolled t) refl (omega arith)
 
   raising : (n : ℕ) → Made s n → firstOf (s .waits) n ≡ 0 → Kept (counted n (count s n + 1) (maximum s n) s) m (entered m (Tallies.release n) (waitsEnded s (counted n (count s n + 1) (maximum s n) s) m 24) t)
   raising n made free = counting s refl refl n (count s n + 1) (maximum s n) (withRelease t (waitsEnded s z m 24)) (made .top) (λ y.

@@ -2,8 +2,7 @@
 -- It rests on the records of model/specs/Task, the moves of Still and the numbers that moves leave alone (Numbers).
 use mathlib.Core.Path.{_≡_, refl, _∙_}
 use mathlib.Core.Bool.{Bool, true, false, cond, not, _&&_}
-use mathlib.Core.List.{List, [], _∷_}
-use Prim.Native.Nat.{ℕ, zero, suc, _+_, _*_, _-_, _≤_}
+use Prim.Native.Nat.{ℕ, _+_, _*_, _-_, _≤_}
 use native.Mathlib.Omega.{arith}
 use native.Mathlib.Nat.{mul-le-mul-right}
 use lib.Dec.{T, eqb}
@@ -13,9 +12,8 @@ use Rattle.model.specs.declared.News.{News}
 use Rattle.model.specs.declared.News.the-variants.{Deleted, Bits}
 use Rattle.model.specs.Row.{place}
 use Rattle.model.specs.Flag.{isMet}
-use Rattle.model.specs.Task.{isDormant, isSuspended, isWaiting, isRunnable, isTimed, ranOut, served, dlt, levelOf, noTask, dormant, activated, ended, withRemaining, aged, told}
-use Rattle.model.specs.State.{task, slice, charge, level, moved}
-use Rattle.model.specs.Effect.{stopped, toldAll, lapsed}
+use Rattle.model.specs.Task.{isDormant, isSuspended, isWaiting, isRunnable, isTimed, ranOut, served, dlt, levelOf, noTask, ended, withRemaining, aged, told}
+use Rattle.model.specs.State.{slice, charge, level, moved}
 use Rattle.model.specs.Sound.{SoundTask}
 use Rattle.laws.proofs.Padded.{both}
 use Rattle.kept.proofs.Records.{some-of, level-live, live-made}

@@ -3,7 +3,6 @@
 use mathlib.Core.Path.{_≡_}
 use Prim.Native.Nat.{ℕ}
 use native.Mathlib.Omega.{arith}
-use lib.Dec.{T}
 use Rattle.model.proofs.Words.{opened}
 use Rattle.turns.specs.Tally.{reachedBy, waitsEnded, tally}
 use Rattle.turns.specs.Statements.{EveryResource}

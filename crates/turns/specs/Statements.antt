@@ -1,5 +1,5 @@
 -- Demand 3, 'turns come round', over the transitions of demand 2: first for a semaphore's waiters, then for the runnable tasks of a level.
--- Then request P9, 'account for every resource'. They speak of `step` and `Sound` of model, and are proved in proofs/Served, Turns and Accounted.
+-- Then request P9, 'account for every resource'. They speak of `step` and `Sound` of model, and are proved in proofs/Served, Turns, Accounted and Releases.
 use mathlib.Core.Path.{_≡_}
 use mathlib.Core.Bool.{Bool, not, _&&_}
 use mathlib.Core.List.{List, [], _∷_}
@@ -146,13 +146,14 @@ TurnsComeRound = (s : State) (calls : List (Context × Call)) (l t q v : ℕ)
 abbrev pub exists : State → ℕ → Bool
 exists s m = isMade (semaphore s m)
 
-abbrev pub Balanced : State → ℕ → Tally → Type 0
-Balanced s m t = t .start + t .released ≡ count s m + (t .atOnce + t .polled + t .handed)
+-- a tally and a present count
+abbrev pub Balanced : Tally → ℕ → Type 0
+Balanced t n = t .start + t .released ≡ n + (t .atOnce + t .polled + t .handed)
 
 abbrev pub EveryResource : Kernel → Type 0
 EveryResource k = (calls : List (Context × Call)) (m : ℕ)
     → T (exists (reachedBy k fresh calls) m)
-    → Balanced (reachedBy k fresh calls) m (tally k m fresh calls noTally)
+    → Balanced (tally k m fresh calls noTally) (count (reachedBy k fresh calls) m)
 
 -- a semaphore that does not exist has no tally: deletion ends it
 abbrev pub NoneWithout : Kernel → Type 0

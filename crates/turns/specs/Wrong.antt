@@ -1,7 +1,7 @@
 -- Two kernels that lose count of resources: each is `step` of model, wrong in the one way that its name says.
 -- proofs/Refuted shows that EveryResource is false of both.
 use mathlib.Core.Bool.{Bool, true, false, cond}
-use Prim.Native.Nat.{ℕ, _+_}
+use Prim.Native.Nat.{_+_}
 use lib.Dec.{eqb}
 use Rattle.model.specs.declared.State.{State}
 use Rattle.model.specs.declared.Answer.{Answer}

@@ -1,5 +1,5 @@
 //! The account of every semaphore over random calls: start value and releases against present count and resources taken.
-//! The tally is kept from the calls, the library's answers and the waits that end; of a state only the count is asked.
+//! The tally is kept from the calls, the library's answers and the waits that end; the states are asked for these and the count.
 #![cfg(library)]
 
 use peer::gen::World;
