@@ -2,11 +2,22 @@
 // include/gritgarland.h declares them. Rests on the border, the test of soundness and the runner.
 ghost use mathlib.Core.Path.{_≡_};
 ghost use lib.ListN.{length};
+ghost use mathlib.Core.Bool.{true};
+ghost use Rattle.model.specs.Code.{isNegative};
 ghost use Rattle.model.specs.Test.{isSound};
 ghost use Rattle.border.specs.Border.{reply};
+ghost use Rattle.gritgarland.specs.Report.{reportOf};
 ghost use Rattle.runner.specs.Outcome.{ranOf, numberOf, bufferOf};
 use border::Reply;
 use model::State;
+
+// A reply without its state, which stays where it was lent.
+#[repr(C)]
+pub struct Report {
+    pub code: i32,
+    pub running: u32,
+    pub value: u32,
+}
 
 // One call on any state, by numbers.
 #[no_mangle]
@@ -22,6 +33,30 @@ pub extern "C" fn gritgarland_call(
     ensures { λ r. ⌜ r ≡ reply s context service a b c d ⌝ }
 {
     border::call_by_number(s, context, service, a, b, c, d)
+}
+
+// The same on the one state that the caller lends: it becomes the next state, and a refusal leaves it.
+#[no_mangle]
+pub extern "C" fn gritgarland_call_in_place(
+    s: &mut State,
+    context: u32,
+    service: u32,
+    a: u32,
+    b: u32,
+    c: u32,
+    d: u32,
+) -> Report
+    ensures { λ r. ⌜ (r ≡ reportOf (reply (now (s .entry)) context service a b c d))
+        × ((now (s .exit) ≡ reply (now (s .entry)) context service a b c d .state)
+        × (isNegative (r .code) ≡ true → now (s .exit) ≡ now (s .entry))) ⌝ }
+{
+    let r = border::call_by_number(*s, context, service, a, b, c, d);
+    *s = r.state;
+    Report {
+        code: r.code,
+        running: r.running,
+        value: r.value,
+    }
 }
 
 // Does a state keep every rule of a sound state?
