@@ -1,8 +1,8 @@
 // Every entry that callers in other languages have, each a thin relay with the promise of what it relays.
-// include/gritgarland.h declares them. Rests on the border, the test of soundness and the runner.
+// include/gritgarland.h declares them. Rests on the border, the test of soundness, the runner and, for what a refusal leaves, kept.
 ghost use mathlib.Core.Path.{_≡_};
-ghost use lib.ListN.{length};
 ghost use mathlib.Core.Bool.{true};
+ghost use lib.ListN.{length};
 ghost use Rattle.model.specs.Code.{isNegative};
 ghost use Rattle.model.specs.Test.{isSound};
 ghost use Rattle.border.specs.Border.{reply};
