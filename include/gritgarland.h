@@ -1,5 +1,5 @@
 /* Gritgarland: TNKernel's scheduling decisions as a proved library. Link with libgritgarland.a.
-   A call takes a state and gives the next one; what each call answers is in docs/SERVICES.md. */
+   A call takes a state and gives the next one, or alters the one that it is lent; what each call answers is in docs/SERVICES.md. */
 #ifndef GRITGARLAND_H
 #define GRITGARLAND_H
 
@@ -57,6 +57,13 @@ typedef struct gritgarland_reply {
     uint32_t value;   /* the bits that a flag wait or poll got at once, all of them; else 0 */
     gritgarland_state state;
 } gritgarland_reply;
+
+/* a reply without its state, which stays where it was lent */
+typedef struct gritgarland_report {
+    int32_t code;
+    uint32_t running;
+    uint32_t value;
+} gritgarland_report;
 
 /* ---- contexts */
 enum { GRITGARLAND_T = 0, /* the running task, or start-up code */ GRITGARLAND_I = 1 /* an interrupt */ };
@@ -125,8 +132,144 @@ enum {
    names nothing gets GRITGARLAND_WRONG_PARAM. */
 gritgarland_reply gritgarland_call(gritgarland_state state, uint32_t context, uint32_t service, uint32_t a, uint32_t b, uint32_t c, uint32_t d);
 
+/* One call on the one state that the caller lends, answering as gritgarland_call does: the state becomes the next one, and a
+   negative code leaves every field of it. It is tested at each call, as any state from outside. What can't be checked here and
+   is the caller's to see to: the pointer is valid and not null, and nobody else, an interrupt neither, touches that state during
+   the call. */
+gritgarland_report gritgarland_call_in_place(gritgarland_state *state, uint32_t context, uint32_t service, uint32_t a, uint32_t b, uint32_t c, uint32_t d);
+
 /* Does a state keep every rule of a sound state? */
 bool gritgarland_is_sound(gritgarland_state state);
+
+/* ---- each service with the numbers that it takes, by gritgarland_call_in_place */
+static inline gritgarland_report gritgarland_task_create(gritgarland_state *state, uint32_t context, uint32_t task, uint32_t priority, uint32_t option)
+{
+    return gritgarland_call_in_place(state, context, GRITGARLAND_TASK_CREATE, task, priority, option, 0);
+}
+static inline gritgarland_report gritgarland_task_delete(gritgarland_state *state, uint32_t context, uint32_t task)
+{
+    return gritgarland_call_in_place(state, context, GRITGARLAND_TASK_DELETE, task, 0, 0, 0);
+}
+static inline gritgarland_report gritgarland_task_activate(gritgarland_state *state, uint32_t context, uint32_t task)
+{
+    return gritgarland_call_in_place(state, context, GRITGARLAND_TASK_ACTIVATE, task, 0, 0, 0);
+}
+static inline gritgarland_report gritgarland_task_iactivate(gritgarland_state *state, uint32_t context, uint32_t task)
+{
+    return gritgarland_call_in_place(state, context, GRITGARLAND_TASK_IACTIVATE, task, 0, 0, 0);
+}
+static inline gritgarland_report gritgarland_task_exit(gritgarland_state *state, uint32_t context)
+{
+    return gritgarland_call_in_place(state, context, GRITGARLAND_TASK_EXIT, 0, 0, 0, 0);
+}
+static inline gritgarland_report gritgarland_task_terminate(gritgarland_state *state, uint32_t context, uint32_t task)
+{
+    return gritgarland_call_in_place(state, context, GRITGARLAND_TASK_TERMINATE, task, 0, 0, 0);
+}
+static inline gritgarland_report gritgarland_task_suspend(gritgarland_state *state, uint32_t context, uint32_t task)
+{
+    return gritgarland_call_in_place(state, context, GRITGARLAND_TASK_SUSPEND, task, 0, 0, 0);
+}
+static inline gritgarland_report gritgarland_task_resume(gritgarland_state *state, uint32_t context, uint32_t task)
+{
+    return gritgarland_call_in_place(state, context, GRITGARLAND_TASK_RESUME, task, 0, 0, 0);
+}
+static inline gritgarland_report gritgarland_task_sleep(gritgarland_state *state, uint32_t context, uint32_t timeout)
+{
+    return gritgarland_call_in_place(state, context, GRITGARLAND_TASK_SLEEP, timeout, 0, 0, 0);
+}
+static inline gritgarland_report gritgarland_task_wakeup(gritgarland_state *state, uint32_t context, uint32_t task)
+{
+    return gritgarland_call_in_place(state, context, GRITGARLAND_TASK_WAKEUP, task, 0, 0, 0);
+}
+static inline gritgarland_report gritgarland_task_iwakeup(gritgarland_state *state, uint32_t context, uint32_t task)
+{
+    return gritgarland_call_in_place(state, context, GRITGARLAND_TASK_IWAKEUP, task, 0, 0, 0);
+}
+static inline gritgarland_report gritgarland_task_release_wait(gritgarland_state *state, uint32_t context, uint32_t task)
+{
+    return gritgarland_call_in_place(state, context, GRITGARLAND_TASK_RELEASE_WAIT, task, 0, 0, 0);
+}
+static inline gritgarland_report gritgarland_task_irelease_wait(gritgarland_state *state, uint32_t context, uint32_t task)
+{
+    return gritgarland_call_in_place(state, context, GRITGARLAND_TASK_IRELEASE_WAIT, task, 0, 0, 0);
+}
+static inline gritgarland_report gritgarland_task_change_priority(gritgarland_state *state, uint32_t context, uint32_t task, uint32_t priority)
+{
+    return gritgarland_call_in_place(state, context, GRITGARLAND_TASK_CHANGE_PRIORITY, task, priority, 0, 0);
+}
+static inline gritgarland_report gritgarland_sys_tslice_ticks(gritgarland_state *state, uint32_t context, uint32_t level, uint32_t slice)
+{
+    return gritgarland_call_in_place(state, context, GRITGARLAND_SYS_TSLICE_TICKS, level, slice, 0, 0);
+}
+static inline gritgarland_report gritgarland_tick_int_processing(gritgarland_state *state, uint32_t context)
+{
+    return gritgarland_call_in_place(state, context, GRITGARLAND_TICK_INT_PROCESSING, 0, 0, 0, 0);
+}
+static inline gritgarland_report gritgarland_sem_create(gritgarland_state *state, uint32_t context, uint32_t semaphore, uint32_t start, uint32_t maximum)
+{
+    return gritgarland_call_in_place(state, context, GRITGARLAND_SEM_CREATE, semaphore, start, maximum, 0);
+}
+static inline gritgarland_report gritgarland_sem_delete(gritgarland_state *state, uint32_t context, uint32_t semaphore)
+{
+    return gritgarland_call_in_place(state, context, GRITGARLAND_SEM_DELETE, semaphore, 0, 0, 0);
+}
+static inline gritgarland_report gritgarland_sem_signal(gritgarland_state *state, uint32_t context, uint32_t semaphore)
+{
+    return gritgarland_call_in_place(state, context, GRITGARLAND_SEM_SIGNAL, semaphore, 0, 0, 0);
+}
+static inline gritgarland_report gritgarland_sem_isignal(gritgarland_state *state, uint32_t context, uint32_t semaphore)
+{
+    return gritgarland_call_in_place(state, context, GRITGARLAND_SEM_ISIGNAL, semaphore, 0, 0, 0);
+}
+static inline gritgarland_report gritgarland_sem_acquire(gritgarland_state *state, uint32_t context, uint32_t semaphore, uint32_t timeout)
+{
+    return gritgarland_call_in_place(state, context, GRITGARLAND_SEM_ACQUIRE, semaphore, timeout, 0, 0);
+}
+static inline gritgarland_report gritgarland_sem_polling(gritgarland_state *state, uint32_t context, uint32_t semaphore)
+{
+    return gritgarland_call_in_place(state, context, GRITGARLAND_SEM_POLLING, semaphore, 0, 0, 0);
+}
+static inline gritgarland_report gritgarland_sem_ipolling(gritgarland_state *state, uint32_t context, uint32_t semaphore)
+{
+    return gritgarland_call_in_place(state, context, GRITGARLAND_SEM_IPOLLING, semaphore, 0, 0, 0);
+}
+static inline gritgarland_report gritgarland_event_create(gritgarland_state *state, uint32_t context, uint32_t flag, uint32_t attributes, uint32_t bits)
+{
+    return gritgarland_call_in_place(state, context, GRITGARLAND_EVENT_CREATE, flag, attributes, bits, 0);
+}
+static inline gritgarland_report gritgarland_event_delete(gritgarland_state *state, uint32_t context, uint32_t flag)
+{
+    return gritgarland_call_in_place(state, context, GRITGARLAND_EVENT_DELETE, flag, 0, 0, 0);
+}
+static inline gritgarland_report gritgarland_event_set(gritgarland_state *state, uint32_t context, uint32_t flag, uint32_t bits)
+{
+    return gritgarland_call_in_place(state, context, GRITGARLAND_EVENT_SET, flag, bits, 0, 0);
+}
+static inline gritgarland_report gritgarland_event_iset(gritgarland_state *state, uint32_t context, uint32_t flag, uint32_t bits)
+{
+    return gritgarland_call_in_place(state, context, GRITGARLAND_EVENT_ISET, flag, bits, 0, 0);
+}
+static inline gritgarland_report gritgarland_event_clear(gritgarland_state *state, uint32_t context, uint32_t flag, uint32_t bits)
+{
+    return gritgarland_call_in_place(state, context, GRITGARLAND_EVENT_CLEAR, flag, bits, 0, 0);
+}
+static inline gritgarland_report gritgarland_event_iclear(gritgarland_state *state, uint32_t context, uint32_t flag, uint32_t bits)
+{
+    return gritgarland_call_in_place(state, context, GRITGARLAND_EVENT_ICLEAR, flag, bits, 0, 0);
+}
+static inline gritgarland_report gritgarland_event_wait(gritgarland_state *state, uint32_t context, uint32_t flag, uint32_t pattern, uint32_t mode, uint32_t timeout)
+{
+    return gritgarland_call_in_place(state, context, GRITGARLAND_EVENT_WAIT, flag, pattern, mode, timeout);
+}
+static inline gritgarland_report gritgarland_event_wait_polling(gritgarland_state *state, uint32_t context, uint32_t flag, uint32_t pattern, uint32_t mode)
+{
+    return gritgarland_call_in_place(state, context, GRITGARLAND_EVENT_WAIT_POLLING, flag, pattern, mode, 0);
+}
+static inline gritgarland_report gritgarland_event_iwait(gritgarland_state *state, uint32_t context, uint32_t flag, uint32_t pattern, uint32_t mode)
+{
+    return gritgarland_call_in_place(state, context, GRITGARLAND_EVENT_IWAIT, flag, pattern, mode, 0);
+}
 
 /* ---- lists of calls */
 enum {

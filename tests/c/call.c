@@ -1,7 +1,8 @@
 /* The kernel from C: every service by its constant, accepted at least once; refusals, an unsound state. Every field of each next
-   state is looked at where the call must leave it alone; the padding in a task's record and after the attributes is no field. */
+   state is looked at where the call must leave it alone. */
 #include "gritgarland.h"
 #include "libc.h"
+#include "same.h"
 
 _Static_assert(sizeof(gritgarland_task) == 24, "a task's record");
 _Static_assert(sizeof(gritgarland_state) == 2076 && sizeof(gritgarland_reply) == 2088, "a state");
@@ -21,19 +22,6 @@ static void expect(int holds, const char *what)
         printf("call.c: %s\n", what);
         failures++;
     }
-}
-
-static int same_part(const gritgarland_state *a, const gritgarland_state *b, size_t from, size_t to)
-{
-    return memcmp((const uint8_t *)a + from, (const uint8_t *)b + from, to - from) == 0;
-}
-
-static int same(const gritgarland_state *a, const gritgarland_state *b)
-{
-    for (size_t t = 0; t <= GRITGARLAND_TASKS; t++)
-        if (!same_part(a, b, 24 * t, 24 * t + 10) || !same_part(a, b, 24 * t + 12, 24 * t + 24))
-            return 0;
-    return same_part(a, b, 600, 2033) && same_part(a, b, 2036, sizeof *a);
 }
 
 /* The call, with the code, the running task and the value it must answer; a refusal leaves every field of the state. */
