@@ -43,6 +43,10 @@ buffers {u = u} p q i = (tt, (fixed (λ x. x) (p .0) (q .0) i, (fixed (λ x. x) 
 pub both : {A B U : Type 0} {r s d : A} {q t e : B} {u : U} → (r ≡ d) × (q ≡ e) → (s ≡ d) × (t ≡ e) → _≡_ {A = A × (B × U)} (r, (q, u)) (s, (t, u))
 both {u = u} p q i = (fixed (λ x. x) (p .0) (q .0) i, (fixed (λ x. x) (p .1) (q .1) i, u))
 
+-- the same, where the promise says something else besides
+pub besides : {A B U X Y : Type 0} {r s d : A} {q t e : B} {u : U} → (r ≡ d) × ((q ≡ e) × X) → (s ≡ d) × ((t ≡ e) × Y) → _≡_ {A = A × (B × U)} (r, (q, u)) (s, (t, u))
+besides p q = both (p .0, p .1 .0) (q .0, q .1 .0)
+
 -- the result and what the second holds, where the first is only read
 pub answer : {A B U : Type 0} {r s d : A} {q t e : B} {u : U} → (r ≡ d) × (q ≡ e) → (s ≡ d) × (t ≡ e) → _≡_ {A = A × (Unit {0} × (B × U))} (r, (tt, (q, u))) (s, (tt, (t, u)))
 answer {u = u} p q i = (fixed (λ x. x) (p .0) (q .0) i, (tt, (fixed (λ x. x) (p .1) (q .1) i, u)))

@@ -19,7 +19,7 @@ use Rattle.text.proofs as text
 use Rattle.lines.proofs as lines
 use Rattle.runner.proofs as runner
 use Rattle.promises.specs.Tight.{Promise}
-use Rattle.promises.proofs.Laws.{of, plain, fixed, result, buffer, buffers, both, answer, queues, tables}
+use Rattle.promises.proofs.Laws.{of, plain, fixed, result, buffer, buffers, both, besides, answer, queues, tables}
 
 pub of-records : List Promise
 of-records =
@@ -186,6 +186,7 @@ of-border =
 pub of-gritgarland : List Promise
 of-gritgarland =
     of gritgarland.gritgarland_call.signature (λ M. gritgarland.gritgarland_call.clauses) (λ M. gritgarland.gritgarland_call.Met.met) (λ w κs a g h o p. plain w result) ∷
+    of gritgarland.gritgarland_call_in_place.signature (λ M. gritgarland.gritgarland_call_in_place.clauses) (λ M. gritgarland.gritgarland_call_in_place.Met.met) (λ w κs a g h o p. plain w besides) ∷
     of gritgarland.gritgarland_is_sound.signature (λ M. gritgarland.gritgarland_is_sound.clauses) (λ M. gritgarland.gritgarland_is_sound.Met.met) (λ w κs a g h o p. plain w result) ∷
     of gritgarland.run_list.signature (λ M. gritgarland.run_list.clauses) (λ M. gritgarland.run_list.Met.met) (λ w κs a g h o p. plain w answer) ∷
     []
