@@ -1,5 +1,5 @@
 /* The library behind a pipe, for tests on a machine that can't link it: reads requests on standard input and answers each.
-   'C': a state and six numbers; 'S': a state; 'L': two lengths, a file and a buffer. Numbers are little-endian. */
+   'C': a state and six numbers; 'P': the same, in place; 'S': a state; 'L': two lengths, a file and a buffer. Numbers are little-endian. */
 #include "gritgarland.h"
 #include "../c/libc.h"
 
@@ -46,6 +46,17 @@ static int call(void)
     return give(&r, sizeof r);
 }
 
+/* The report and the lent state, which together are laid out as a reply. */
+static int call_in_place(void)
+{
+    gritgarland_state lent;
+    uint32_t n[6];
+    if (!take(&lent, sizeof lent) || !take(n, sizeof n))
+        return 0;
+    gritgarland_report r = gritgarland_call_in_place(&lent, n[0], n[1], n[2], n[3], n[4], n[5]);
+    return give(&r, sizeof r) && give(&lent, sizeof lent);
+}
+
 static int is_sound(void)
 {
     gritgarland_state state;
@@ -68,7 +79,7 @@ int main(void)
 {
     char what;
     while (take(&what, 1)) {
-        int answered = what == 'C' ? call() : what == 'S' ? is_sound() : what == 'L' ? list() : 0;
+        int answered = what == 'C' ? call() : what == 'P' ? call_in_place() : what == 'S' ? is_sound() : what == 'L' ? list() : 0;
         if (!answered)
             return 1;
     }

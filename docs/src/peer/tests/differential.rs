@@ -1,4 +1,5 @@
-//! The proved library against the peer, call by call: code, running task, value and every number of the next state.
+//! The proved library against the peer, call by call, by value and on a lent state: code, running task, value and every number
+//! of the next state.
 //! What differs is cut down to the fewest calls and damages that still show it, and printed.
 #![cfg(library)]
 
@@ -12,15 +13,20 @@ use peer::slots::{differences, get, set, ROWS, SLOTS};
 use peer::sound::is_sound;
 
 mod library;
-use library::{call as library_call, is_sound as library_is_sound, SHARE};
+use library::{call, call_in_place, is_sound as library_is_sound, SHARE};
 
-/// How the library's reply differs from the peer's, if it does.
-fn unlike(ours: &Reply, theirs: &Reply) -> Option<String> {
-    if ours == theirs {
-        return None;
-    }
+const ENTRIES: [&str; 2] = ["library", "library in place"];
+
+/// The replies of the library's two entries.
+fn library_calls(state: &State, asked: &Call) -> [Reply; 2] {
+    [call(state, asked), call_in_place(state, asked)]
+}
+
+/// How the first of the library's replies that differs from the peer's differs from it.
+fn unlike(ours: &Reply, theirs: &[Reply; 2]) -> Option<String> {
+    let (entry, theirs) = ENTRIES.iter().zip(theirs).find(|(_, theirs)| ours != *theirs)?;
     let answer = |reply: &Reply| format!("({}, {}, {})", reply.code, reply.running, reply.value);
-    let answer = format!("peer {}, library {}", answer(ours), answer(theirs));
+    let answer = format!("peer {}, {entry} {}", answer(ours), answer(theirs));
     Some(format!("{answer}\n{}", differences(&ours.state, &theirs.state).join("\n")))
 }
 
@@ -31,10 +37,11 @@ fn run_differs(time: u32, calls: &[Call]) -> Option<String> {
     let mut state = store(&kernel);
     for (number, call) in (1..).zip(calls) {
         let Answer { code, running, value } = kernel.call(call);
-        let theirs = library_call(&state, call);
+        let theirs = library_calls(&state, call);
         if let Some(how) = unlike(&Reply { code, running, value, state: store(&kernel) }, &theirs) {
             return Some(format!("at call {number}, {call}: {how}"));
         }
+        let [_, theirs] = theirs;
         if !library_is_sound(&theirs.state) {
             return Some(format!("at call {number}, {call}: the library calls its next state unsound"));
         }
@@ -98,12 +105,10 @@ fn state_differs(state: &State, last: &Call) -> Option<String> {
     if library_is_sound(state) != sound {
         return Some(format!("sound? peer {sound}, library {}", !sound));
     }
-    let theirs = library_call(state, last);
-    if !sound && (theirs.code, theirs.running, theirs.value) != (UNSOUND, 0, 0) {
-        return Some(format!(
-            "unsound, but the library answers ({}, {}, {})",
-            theirs.code, theirs.running, theirs.value
-        ));
+    let theirs = library_calls(state, last);
+    let [Reply { code, running, value, .. }, _] = theirs;
+    if !sound && (code, running, value) != (UNSOUND, 0, 0) {
+        return Some(format!("unsound, but the library answers ({code}, {running}, {value})"));
     }
     unlike(&layout::call(state, *last), &theirs)
 }
@@ -202,7 +207,7 @@ fn unknown_contexts_and_services() {
                 let [a, b, c, d] = std::array::from_fn(|_| rng.pick(&LIMITS));
                 let call = Call { context, service, a, b, c, d };
                 let expected = Reply { code: WRONG_PARAM, running, value: 0, state };
-                assert_eq!(unlike(&expected, &library_call(&state, &call)), None, "seed {seed}, {call}");
+                assert_eq!(unlike(&expected, &library_calls(&state, &call)), None, "seed {seed}, {call}");
                 let mut bad = state;
                 bad.tasks[0].base = 1;
                 assert_eq!(state_differs(&bad, &call), None, "seed {seed}, {call}");

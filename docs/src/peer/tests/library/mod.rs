@@ -12,8 +12,24 @@ pub const SHARE: u64 = if cfg!(linked) { 1 } else { 5 };
 mod entry {
     use super::{Call, Reply, State};
 
+    #[repr(C)]
+    struct Report {
+        code: i32,
+        running: u32,
+        value: u32,
+    }
+
     extern "C" {
         fn gritgarland_call(s: State, context: u32, service: u32, a: u32, b: u32, c: u32, d: u32) -> Reply;
+        fn gritgarland_call_in_place(
+            s: *mut State,
+            context: u32,
+            service: u32,
+            a: u32,
+            b: u32,
+            c: u32,
+            d: u32,
+        ) -> Report;
         fn gritgarland_is_sound(s: State) -> bool;
         fn run_list(file: *const u8, n: usize, answer: *mut u8, m: usize) -> i64;
     }
@@ -21,6 +37,14 @@ mod entry {
     pub fn call(state: &State, call: &Call) -> Reply {
         // SAFETY: the layout is the library's, and any bytes are a State.
         unsafe { gritgarland_call(*state, call.context, call.service, call.a, call.b, call.c, call.d) }
+    }
+
+    pub fn call_in_place(state: &State, call: &Call) -> Reply {
+        let mut lent = *state;
+        // SAFETY: as above, and the pointer is to a state that nobody else has.
+        let Report { code, running, value } =
+            unsafe { gritgarland_call_in_place(&mut lent, call.context, call.service, call.a, call.b, call.c, call.d) };
+        Reply { code, running, value, state: lent }
     }
 
     pub fn is_sound(state: &State) -> bool {
@@ -86,7 +110,15 @@ mod entry {
     }
 
     pub fn call(state: &State, call: &Call) -> Reply {
-        let mut request = vec![b'C'];
+        replied(b'C', state, call)
+    }
+
+    pub fn call_in_place(state: &State, call: &Call) -> Reply {
+        replied(b'P', state, call)
+    }
+
+    fn replied(what: u8, state: &State, call: &Call) -> Reply {
+        let mut request = vec![what];
         request.extend_from_slice(bytes_of(state));
         for number in [call.context, call.service, call.a, call.b, call.c, call.d] {
             request.extend_from_slice(&number.to_le_bytes());
@@ -121,4 +153,4 @@ mod entry {
 }
 
 #[allow(unused_imports)]
-pub use entry::{call, is_sound, list};
+pub use entry::{call, call_in_place, is_sound, list};
