@@ -1,7 +1,7 @@
 -- Laws by which the loops of crossing off go on, from one place to the next and from one row to the next.
 -- Rests on specs/Crossing.
 use mathlib.Core.Path.{_≡_, sym, _∙_}
-use mathlib.Core.Bool.{true, false, _&&_, not, and-false}
+use mathlib.Core.Bool.{Bool, true, false, _&&_, not, and-false}
 use mathlib.Core.List.{List}
 use Prim.Native.Nat.{ℕ, suc, _+_, _-_, _≤_, _<_}
 use native.Mathlib.Decide.{ℕ-discrete, decLt}
@@ -16,17 +16,23 @@ use Rattle.crossing.specs.Crossing.{crosses, crossed, crossesAll, rowEnd
 
 -- ---- zeros
 module _ (q : List ℕ) (i : ℕ) where
-  pub zeros-on : i < length q → getD q i 0 ≡ 0 → zeros (drop i q) ≡ zeros (drop (i + 1) q)
+  -- what was seen and what is left say it of the whole, one place further on
+  pub zeros-on : (clear r : Bool) → i < length q → r ≡ (clear && zeros (drop i q)) → r ≡ ((clear && eqb (getD q i 0) 0) && zeros (drop (i + 1) q))
   unfolding zeros
-  zeros-on h e = rw (add-one, drop-cons q i 0 h, eq-eqb _ _ e)
+  zeros-on clear r h e = go clear (rw (drop-cons q i 0 h) at e)
+    where
+      go : (a : Bool) → r ≡ (a && (eqb (getD q i 0) 0 && zeros (drop (suc i) q))) → r ≡ ((a && eqb (getD q i 0) 0) && zeros (drop (i + 1) q))
+      go true f = rw add-one f
+      go false f = f
 
-  pub zeros-fails : i < length q → (getD q i 0 ≡ 0 → ⊥) → zeros (drop i q) ≡ false
+  -- and at the end what was seen
+  pub zeros-end : (clear r : Bool) → length q ≤ i → r ≡ (clear && zeros (drop i q)) → clear ≡ r
   unfolding zeros
-  zeros-fails h n = rw (drop-cons q i 0 h, ne-eqb _ _ n)
-
-  pub zeros-end : length q ≤ i → zeros (drop i q) ≡ true
-  unfolding zeros
-  zeros-end h = rw (drop-of-length-le q h)
+  zeros-end clear r h e = go clear (rw (drop-of-length-le q h) at e)
+    where
+      go : (a : Bool) → r ≡ (a && true) → a ≡ r
+      go true f = sym f
+      go false f = sym f
 
 -- ---- one row. What is said of `crosses` and of `crossed` from place i on
 module _ (l : ℕ) (w : List ℕ) where
@@ -45,9 +51,9 @@ module _ (l : ℕ) (w : List ℕ) where
     unfolding crosses crossed
     crosses-done h = (rw (drop-of-length-le q h), rw (drop-of-length-le q h))
 
-    pub crosses-ends : i < length q → t ≡ 0 → (crosses l (drop i q) w ≡ zeros (drop (i + 1) q)) × (crossed l (drop i q) w ≡ w)
-    unfolding crosses crossed
-    crosses-ends h e = (rw (add-one, drop-cons q i 0 h, eq-eqb t 0 e), rw (drop-cons q i 0 h, eq-eqb t 0 e))
+    pub crosses-ends : i < length q → t ≡ 0 → (crosses l (drop i q) w ≡ zeros (drop i q)) × (crossed l (drop i q) w ≡ w)
+    unfolding crosses crossed zeros
+    crosses-ends h e = (rw (drop-cons q i 0 h, eq-eqb t 0 e), rw (drop-cons q i 0 h, eq-eqb t 0 e))
 
     pub crosses-fails : i < length q → (t ≡ 0 → ⊥) → isListed l (getD w t 0) ≡ false → (crosses l (drop i q) w ≡ false) × (crossed l (drop i q) w ≡ w)
     unfolding crosses crossed

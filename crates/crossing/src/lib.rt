@@ -14,18 +14,18 @@ fn is_listed(l: u8, want: u8) -> bool
     want == l
 }
 
-// Whether there are only zeros from a place on.
+// Whether there are only zeros from a place on: no way out of the loop, so that it looks at several places at a time.
 fn zeros_from(q: &[u8], from: usize) -> bool
     ensures { λ r. ⌜ r ≡ zeros (drop from (now (q .entry))) ⌝ }
 {
+    let n = q.len();
+    let mut clear = true;
     let mut i = from;
-    while i < q.len() {
-        if q[i] != 0 {
-            return false;
-        }
+    while i < n {
+        clear = clear & (q[i] == 0);
         i += 1;
     }
-    true
+    clear
 }
 
 // Crosses the tasks of row l off.
@@ -36,7 +36,7 @@ fn cross(q: &[u8], l: u8, wants: &mut [u8]) -> bool
     while i < q.len() {
         let t = q[i] as usize;
         if t == 0 {
-            return zeros_from(q, i + 1);
+            return zeros_from(q, i);
         }
         if wants.len() <= t {
             return false;

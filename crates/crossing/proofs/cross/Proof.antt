@@ -26,9 +26,6 @@ shared-slice-read-t c = search needs
 cast-t : tie.Need-cast-t Inv-loop μ-loop
 cast-t c = omega (arith, c .shared-slice-known2 .given (c .before .before .loop .i))
 
-add-zeros-from : tie.Need-add-zeros-from Inv-loop μ-loop
-add-zeros-from c = omega arith
-
 zeros-from-requires : tie.Need-zeros-from-requires Inv-loop μ-loop
 zeros-from-requires c κs = search needs
 
@@ -103,7 +100,6 @@ cross-spec =
     loop-holds
     shared-slice-read-t
     cast-t
-    add-zeros-from
     zeros-from-requires
     same-length
     returns

@@ -1,32 +1,27 @@
--- `crossing::zeros_from` meets its contract. The invariant: the whole has only zeros where what is left has.
+-- `crossing::zeros_from` meets its contract. The invariant: what was seen and what is left say it of the whole.
 -- Rests on Steps.
-use mathlib.Core.Path.{_≡_, refl, sym, _∙_}
+use mathlib.Core.Bool.{_&&_}
+use mathlib.Core.Path.{_≡_, refl}
 use Prim.Native.Nat.{_-_}
 use native.Mathlib.Omega.{arith}
 use lib.ListN.{length, drop}
 use borrow.Author.Needs.{needs}
 use Rattle.model.specs.Test.{zeros}
-use Rattle.crossing.proofs.Steps.{zeros-on, zeros-fails, zeros-end}
+use Rattle.crossing.proofs.Steps.{zeros-on, zeros-end}
 use Rattle.crossing.proofs.zeros_from.Statement.{statement}
 use Rattle.crossing.proofs.zeros_from.Tie as tie
 
 abbrev Inv-loop : tie.InvT-loop
-Inv-loop q from i₀ i = zeros (drop from q) ≡ zeros (drop i q)
+Inv-loop q from n clear₀ i₀ clear i = zeros (drop from q) ≡ (clear && zeros (drop i q))
 
 abbrev μ-loop : tie.MeasureT-loop
-μ-loop q from i₀ i = length q - i
+μ-loop q from n clear₀ i₀ clear i = length q - i
 
 loop-holds : tie.Need-loop-holds Inv-loop μ-loop
 loop-holds c = refl
 
-shared-slice-read-if1 : tie.Need-shared-slice-read-if1 Inv-loop μ-loop
-shared-slice-read-if1 c = search needs
-
-returns : tie.Need-returns Inv-loop μ-loop
-returns c =
-    let l = c .before .before .before .loop in
-    let a = c .before .before .before .before .args in
-    sym (l .inv ∙ zeros-fails (a .q .now) (l .i) (c .before .before .loop-test .taken) (c .if1 .taken))
+shared-slice-read-clear : tie.Need-shared-slice-read-clear Inv-loop μ-loop
+shared-slice-read-clear c = search needs
 
 add-i : tie.Need-add-i Inv-loop μ-loop
 add-i c = omega arith
@@ -36,12 +31,11 @@ loop-less c = omega arith
 
 loop-again : tie.Need-loop-again Inv-loop μ-loop
 loop-again c =
-    let l = c .before .before .before .loop in
-    let a = c .before .before .before .before .args in
-    l .inv ∙ zeros-on (a .q .now) (l .i) (c .before .before .loop-test .taken) (c .if1 .left)
+    let l = c .before .before .loop in
+    zeros-on _ (l .i) (l .clear) _ (c .before .loop-test .taken) (l .inv)
 
-returns-2 : tie.Need-returns-2 Inv-loop μ-loop
-returns-2 c = let l = c .before .loop in sym (l .inv ∙ zeros-end (c .before .before .args .q .now) (l .i) (c .loop-test .left))
+returns : tie.Need-returns Inv-loop μ-loop
+returns c = let l = c .before .loop in zeros-end _ (l .i) (l .clear) _ (c .loop-test .left) (l .inv)
 
 pub zeros-from-spec : {M : Type 1} → statement M
 zeros-from-spec =
@@ -50,9 +44,8 @@ zeros-from-spec =
     Inv-loop
     μ-loop
     loop-holds
-    shared-slice-read-if1
-    returns
+    shared-slice-read-clear
     add-i
     loop-less
     loop-again
-    returns-2)
+    returns)
