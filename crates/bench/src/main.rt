@@ -37,8 +37,10 @@ fn running(s: State) -> u32 {
 
 fn remaining(s: State, t: usize) -> u32 {
     let tasks = s.tasks;
-    let k = effects::task_at(tasks, t);
-    k.remaining
+    if t < 25 {
+        return tasks[t].remaining;
+    }
+    0
 }
 
 // Task 1 waits for 65,535 ticks, task 2 without end.

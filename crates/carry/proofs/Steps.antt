@@ -1,9 +1,8 @@
 -- One task's move and stop in the tables of tasks and queues, way by way. Rests on the definitions alone.
 use mathlib.Core.Path.{_≡_, refl, sym, ap, _∙_}
 use mathlib.Core.List.{List}
-use Prim.Native.Nat.{ℕ, _≤_}
-use lib.ListN.{getD, set, length}
-use lib.Seq.{set-out}
+use Prim.Native.Nat.{ℕ}
+use lib.ListN.{getD, set}
 use borrow.Author.Tests.{eq-eqb, ne-eqb}
 use Rattle.model.specs.declared.Task.{Task}
 use Rattle.model.specs.Row.{relisted}
@@ -12,14 +11,10 @@ use Rattle.model.specs.State.{moved}
 use Rattle.model.specs.Effect.{stopped}
 use Rattle.effects.specs.Parts.{listed}
 
-module _ (r : List Task) (ls ws : List ℕ) (t : ℕ) (k x : Task) (ls′ ws′ : List ℕ) (e : k ≡ getD r t noTask) where
-  pub moves : ls′ ≡ relisted ls (levelOf k) (levelOf x) t → ws′ ≡ relisted ws (rowOf k) (rowOf x) t → listed (set r t x) ls′ ws′ ≡ moved t x (listed r ls ws)
-  unfolding moved
-  moves a b = rw (a, b, e)
-
-  -- a number past the table: nothing is stored
-  pub misses : length r ≤ t → ls′ ≡ relisted ls (levelOf k) (levelOf x) t → ws′ ≡ relisted ws (rowOf k) (rowOf x) t → listed r ls′ ws′ ≡ moved t x (listed r ls ws)
-  misses h a b = (rw (set-out r t x h)) ∙ moves a b
+pub moves : (r : List Task) (ls ws : List ℕ) (t : ℕ) (k x : Task) (r′ : List Task) (ls′ ws′ : List ℕ) → k ≡ getD r t noTask → r′ ≡ set r t x
+    → ls′ ≡ relisted ls (levelOf k) (levelOf x) t → ws′ ≡ relisted ws (rowOf k) (rowOf x) t → listed r′ ls′ ws′ ≡ moved t x (listed r ls ws)
+unfolding moved
+moves r ls ws t k x r′ ls′ ws′ e d a b = rw (d, a, b, e)
 
 module _ (r : List Task) (ls ws : List ℕ) (t : ℕ) (k x : Task) (r₁ : List Task) (ls₁ ws₁ : List ℕ) (e : k ≡ getD r t noTask) (d : x ≡ dormant (k .base))
     (m : listed r₁ ls₁ ws₁ ≡ moved t x (listed r ls ws)) where

@@ -1,48 +1,54 @@
-// An effect carried out on all the tables, each lent by itself; only the table of tasks goes in and out by value.
-// Every arm is a definition of model/specs/Effect, for every value.
+// An effect carried out on all the tables, each lent by itself and changed where it lies.
+// Every arm is a definition of model/specs/Effect, for every value; who runs is told, so that nobody looks twice.
 ghost use mathlib.Core.Path.{_≡_};
 ghost use mathlib.Core.Bool.{cond};
 ghost use Prim.Native.Nat.{_*_};
 ghost use lib.Dec.{eqb};
 ghost use Rattle.model.specs.State.{moved};
-ghost use Rattle.model.specs.Effect.{carried, stopped, chargedLevel};
+ghost use Rattle.model.specs.Effect.{stopped, chargedLevel};
+ghost use Rattle.stored.specs.Stored.{tasksOf};
 ghost use Rattle.effects.specs.Parts.{listed, rated, places, stateOf};
+ghost use Rattle.carry.specs.From.{carriedFrom};
 use model::Effect;
 use model::News;
 use model::Task;
+use stored::put_record;
+use stored::record_at;
 
 // ---- one task moves
 pub fn move_task(
-    tasks: [Task; 25],
+    bytes: &mut [u8; 250],
+    words: &mut [u32; 75],
     levels: &mut [u8],
     waits: &mut [u8],
     t: u8,
     x: Task,
-) -> [Task; 25]
-    ensures { λ r. ⌜ listed r (now (levels .exit)) (now (waits .exit)) ≡ moved t x (listed tasks (now (levels .entry)) (now (waits .entry))) ⌝ }
+)
+    ensures { λ r. ⌜ listed (tasksOf (now (bytes .exit)) (now (words .exit))) (now (levels .exit)) (now (waits .exit)) ≡ moved t x (listed (tasksOf (now (bytes .entry)) (now (words .entry))) (now (levels .entry)) (now (waits .entry))) ⌝ }
 {
-    let k = effects::task_at(tasks, t as usize);
+    let k = record_at(bytes, words, t as usize);
     effects::requeue(levels, waits, t, k, x);
-    let mut r = tasks;
-    if 25 <= t {
-        return r;
-    }
-    r[t as usize] = x;
-    r
+    put_record(bytes, words, t as usize, x);
 }
 
 // ---- one task becomes dormant, and runnable again at once where an activation is counted
-pub fn stop_task(tasks: [Task; 25], levels: &mut [u8], waits: &mut [u8], t: u8) -> [Task; 25]
-    ensures { λ r. ⌜ listed r (now (levels .exit)) (now (waits .exit)) ≡ stopped t (listed tasks (now (levels .entry)) (now (waits .entry))) ⌝ }
+pub fn stop_task(
+    bytes: &mut [u8; 250],
+    words: &mut [u32; 75],
+    levels: &mut [u8],
+    waits: &mut [u8],
+    t: u8,
+)
+    ensures { λ r. ⌜ listed (tasksOf (now (bytes .exit)) (now (words .exit))) (now (levels .exit)) (now (waits .exit)) ≡ stopped t (listed (tasksOf (now (bytes .entry)) (now (words .entry))) (now (levels .entry)) (now (waits .entry))) ⌝ }
 {
-    let k = effects::task_at(tasks, t as usize);
+    let k = record_at(bytes, words, t as usize);
     let x = records::dormant(k.base);
-    let r = move_task(tasks, levels, waits, t, x);
+    move_task(bytes, words, levels, waits, t, x);
     let activations = k.activations;
     if activations == 0 {
-        return r;
+        return;
     }
-    move_task(r, levels, waits, t, records::activated(x))
+    move_task(bytes, words, levels, waits, t, records::activated(x));
 }
 
 // ---- a queue as it stands, with zeros for what is past the table
@@ -69,9 +75,10 @@ pub fn charge_running(levels: &mut [u8], slices: &[u16], charges: &mut [u16], ru
     effects::charge(levels, slices, charges, level as usize);
 }
 
-// ---- any effect
+// ---- any effect, where `run` runs
 pub fn carry(
-    tasks: [Task; 25],
+    bytes: &mut [u8; 250],
+    words: &mut [u32; 75],
     levels: &mut [u8],
     waits: &mut [u8],
     slices: &mut [u16],
@@ -81,14 +88,15 @@ pub fn carry(
     attributes: &mut [u8],
     bits: &mut [u32],
     time: &mut u32,
+    run: u8,
     e: Effect,
-) -> [Task; 25]
-    ensures { λ r. ⌜ stateOf r (now (levels .exit)) (now (waits .exit)) (now (slices .exit)) (now (charges .exit)) (now (counts .exit)) (now (maxima .exit)) (now (attributes .exit)) (now (bits .exit)) (now (time .exit)) ≡ carried (stateOf tasks (now (levels .entry)) (now (waits .entry)) (now (slices .entry)) (now (charges .entry)) (now (counts .entry)) (now (maxima .entry)) (now (attributes .entry)) (now (bits .entry)) (now (time .entry))) e ⌝ }
+)
+    ensures { λ r. ⌜ stateOf (tasksOf (now (bytes .exit)) (now (words .exit))) (now (levels .exit)) (now (waits .exit)) (now (slices .exit)) (now (charges .exit)) (now (counts .exit)) (now (maxima .exit)) (now (attributes .exit)) (now (bits .exit)) (now (time .exit)) ≡ carriedFrom run (stateOf (tasksOf (now (bytes .entry)) (now (words .entry))) (now (levels .entry)) (now (waits .entry)) (now (slices .entry)) (now (charges .entry)) (now (counts .entry)) (now (maxima .entry)) (now (attributes .entry)) (now (bits .entry)) (now (time .entry))) e ⌝ }
 {
     match e {
-        Effect::Nothing => tasks,
-        Effect::Moves { task, record } => move_task(tasks, levels, waits, task, record),
-        Effect::Stops { task } => stop_task(tasks, levels, waits, task),
+        Effect::Nothing => {}
+        Effect::Moves { task, record } => move_task(bytes, words, levels, waits, task, record),
+        Effect::Stops { task } => stop_task(bytes, words, levels, waits, task),
         Effect::Counts {
             semaphore,
             count,
@@ -96,26 +104,22 @@ pub fn carry(
         } => {
             effects::put_number(counts, semaphore as usize, count);
             effects::put_number(maxima, semaphore as usize, maximum);
-            tasks
         }
         Effect::Deletes { semaphore } => {
             let q = copy_row(waits, semaphore);
-            let r = effects::tell_all(tasks, levels, waits, q, News::Deleted);
+            effects::tell_all(bytes, words, levels, waits, q, News::Deleted);
             effects::put_number(counts, semaphore as usize, 0);
             effects::put_number(maxima, semaphore as usize, 0);
-            r
         }
         Effect::Slices { level, slice } => {
             effects::put_number(slices, level as usize, slice);
             effects::put_number(charges, level as usize, 0);
-            tasks
         }
         Effect::Ticks => {
-            let run = rows::best(levels);
-            let k = effects::task_at(tasks, run as usize);
+            let k = record_at(bytes, words, run as usize);
             *time = std::num::wrapping_add_u32(*time, 1);
             charge_running(levels, slices, charges, run, k.priority);
-            effects::lapse(tasks, levels, waits)
+            effects::lapse(bytes, words, levels, waits);
         }
         Effect::Flags {
             flag,
@@ -124,7 +128,6 @@ pub fn carry(
         } => {
             effects::put_byte(attributes, flag as usize, a);
             effects::put_bits(bits, flag as usize, b);
-            tasks
         }
         Effect::Tells {
             flag,
@@ -133,10 +136,9 @@ pub fn carry(
             bits: b,
         } => {
             let q = copy_row(waits, records::flag_row(flag));
-            let r = effects::tell_all(tasks, levels, waits, q, news);
+            effects::tell_all(bytes, words, levels, waits, q, news);
             effects::put_byte(attributes, flag as usize, a);
             effects::put_bits(bits, flag as usize, b);
-            r
         }
     }
 }

@@ -35,19 +35,19 @@ moved-same : (r : List Task) (ls ws : List ℕ) (t : ℕ) → moved t (getD r t 
 moved-same r ls ws t = moved-kept r ls ws t (getD r t noTask) refl refl ∙ rw (set-getD r t noTask)
 
 -- ---- a record after a tick
-untimed : (x : Task) → x .remaining ≡ 0 → aged x ≡ x
+pub untimed : (x : Task) → x .remaining ≡ 0 → aged x ≡ x
 unfolding aged
 untimed x e = rw (eq-eqb _ _ e)
 
-unending : (x : Task) → (x .remaining ≡ 0 → ⊥) → x .remaining ≡ endless → aged x ≡ x
+pub unending : (x : Task) → (x .remaining ≡ 0 → ⊥) → x .remaining ≡ endless → aged x ≡ x
 unfolding aged
 unending x z e = rw (ne-eqb _ _ z, eq-eqb _ _ e)
 
-falling : (x : Task) → (x .remaining ≡ 0 → ⊥) → (x .remaining ≡ endless → ⊥) → (x .remaining ≡ 1 → ⊥) → aged x ≡ withRemaining x (x .remaining - 1)
+pub falling : (x : Task) → (x .remaining ≡ 0 → ⊥) → (x .remaining ≡ endless → ⊥) → (x .remaining ≡ 1 → ⊥) → aged x ≡ withRemaining x (x .remaining - 1)
 unfolding aged
 falling x z e o = rw (ne-eqb _ _ z, ne-eqb _ _ e, ne-eqb _ _ o)
 
-ending : (x : Task) → (x .remaining ≡ 0 → ⊥) → (x .remaining ≡ endless → ⊥) → x .remaining ≡ 1 → aged x ≡ ended x (ranOut x) 0
+pub ending : (x : Task) → (x .remaining ≡ 0 → ⊥) → (x .remaining ≡ endless → ⊥) → x .remaining ≡ 1 → aged x ≡ ended x (ranOut x) 0
 unfolding aged
 ending x z e o = rw (ne-eqb _ _ z, ne-eqb _ _ e, eq-eqb _ _ o)
 

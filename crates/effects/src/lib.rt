@@ -1,18 +1,23 @@
-// What an effect does to the tables it changes, each lent or handed over by itself: a move in the queues, a charged tick,
-// the timeouts of a tick, the news to those in a queue. It rests on the rows and the records.
+// What an effect does to the tables it changes, each lent by itself: a move in the queues, a charged tick, the timeouts of a
+// tick, the news to those in a queue. It rests on the rows, the records and the tables that store them.
 ghost use mathlib.Core.Path.{_≡_};
-ghost use lib.ListN.{getD, set};
+ghost use lib.ListN.{getD, length, set};
 ghost use Rattle.model.specs.Row.{relisted};
-ghost use Rattle.model.specs.Task.{noTask, levelOf, rowOf, ranOut};
+ghost use Rattle.model.specs.Task.{levelOf, rowOf, ranOut};
 ghost use Rattle.model.specs.Flag.{flagRow};
 ghost use Rattle.model.specs.Effect.{chargedLevel, lapsed, toldAll};
+ghost use Rattle.stored.specs.Stored.{tasksOf};
+ghost use Rattle.effects.specs.Falling.{fallen, isDue, fallAll};
 ghost use Rattle.effects.specs.Parts.{listed, rated, semaphoreIn, flagIn};
 use model::Flag;
 use model::News;
 use model::Semaphore;
 use model::Task;
+use stored::put_record;
+use stored::put_remaining;
+use stored::record_at;
 
-// ---- tables of numbers and records: a number that names nothing reads as zeros, and a store there changes nothing
+// ---- tables of numbers: a place past the end reads as 0, and a store there changes nothing
 pub fn number_at(ns: &[u16], i: usize) -> u16
     ensures { λ r. ⌜ r ≡ getD (now (ns .entry)) i 0 ⌝ }
 {
@@ -65,15 +70,6 @@ pub fn put_bits(ns: &mut [u32], i: usize, v: u32)
         return;
     }
     ns[i] = v;
-}
-
-pub fn task_at(tasks: [Task; 25], t: usize) -> Task
-    ensures { λ r. ⌜ r ≡ getD tasks t noTask ⌝ }
-{
-    if t < 25 {
-        return tasks[t];
-    }
-    records::no_task()
 }
 
 // The semaphore that a call names.
@@ -161,62 +157,91 @@ pub fn ran_out(x: Task) -> u8
     4
 }
 
-// Tasks 1 to 24 in ascending number: each finite timeout falls by 1, and those reaching 0 end.
-pub fn lapse(tasks: [Task; 25], levels: &mut [u8], waits: &mut [u8]) -> [Task; 25]
-    ensures { λ r. ⌜ listed r (now (levels .exit)) (now (waits .exit)) ≡ lapsed 24 1 (listed tasks (now (levels .entry)) (now (waits .entry))) ⌝ }
+// What a tick leaves of a timeout that does not end with it.
+fn fallen(n: u32) -> u32
+    ensures { λ r. ⌜ r ≡ fallen n ⌝ }
 {
-    let mut r = tasks;
+    if n == 0 {
+        return 0;
+    }
+    if n == records::ENDLESS {
+        return n;
+    }
+    n - 1
+}
+
+// Whether any timeout ends with the next tick.
+fn is_due(words: &[u32; 75]) -> bool
+    ensures { λ r. ⌜ (r ≡ isDue 24 1 (now (words .entry))) × (length (now (words .entry)) ≡ 75) ⌝ }
+{
+    let w: &[u32] = words;
+    let mut due = false;
     let mut t: usize = 1;
     while t < 25 {
-        let n = r[t].remaining;
-        if n == 0 {
-            t = t + 1;
-            continue;
-        }
-        if n == records::ENDLESS {
-            t = t + 1;
-            continue;
-        }
-        if n != 1 {
-            r[t].remaining = n - 1;
-            t = t + 1;
-            continue;
-        }
-        let k = r[t];
-        let x = records::ended(k, ran_out(k), 0);
-        requeue(levels, waits, t as u8, k, x);
-        r[t] = x;
+        due = due | (w[t] == 1);
         t = t + 1;
     }
-    r
+    due
+}
+
+// All timeouts of a tick that ends none: no test and no call between two stores, so that they go several at a time.
+fn fall(words: &mut [u32; 75])
+    ensures { λ r. ⌜ now (words .exit) ≡ fallAll 24 1 (now (words .entry)) ⌝ }
+{
+    let mut t: usize = 1;
+    while t < 25 {
+        let n = words[t];
+        words[t] = fallen(n);
+        t = t + 1;
+    }
+}
+
+// Tasks 1 to 24 in ascending number: each finite timeout falls by 1, and those reaching 0 end.
+pub fn lapse(bytes: &mut [u8; 250], words: &mut [u32; 75], levels: &mut [u8], waits: &mut [u8])
+    ensures { λ r. ⌜ listed (tasksOf (now (bytes .exit)) (now (words .exit))) (now (levels .exit)) (now (waits .exit)) ≡ lapsed 24 1 (listed (tasksOf (now (bytes .entry)) (now (words .entry))) (now (levels .entry)) (now (waits .entry))) ⌝ }
+{
+    if !is_due(words) {
+        fall(words);
+        return;
+    }
+    let mut t: usize = 1;
+    while t < 25 {
+        let n = words[t];
+        if n != 1 {
+            put_remaining(bytes, words, t, fallen(n));
+            t = t + 1;
+            continue;
+        }
+        let k = record_at(bytes, words, t);
+        let x = records::ended(k, ran_out(k), 0);
+        requeue(levels, waits, t as u8, k, x);
+        put_record(bytes, words, t, x);
+        t = t + 1;
+    }
 }
 
 // ---- those in a queue are told the news, in queue order
 pub fn tell_all(
-    tasks: [Task; 25],
+    bytes: &mut [u8; 250],
+    words: &mut [u32; 75],
     levels: &mut [u8],
     waits: &mut [u8],
     q: [u8; 24],
     news: News,
-) -> [Task; 25]
-    ensures { λ r. ⌜ listed r (now (levels .exit)) (now (waits .exit)) ≡ toldAll news q (listed tasks (now (levels .entry)) (now (waits .entry))) ⌝ }
+)
+    ensures { λ r. ⌜ listed (tasksOf (now (bytes .exit)) (now (words .exit))) (now (levels .exit)) (now (waits .exit)) ≡ toldAll news q (listed (tasksOf (now (bytes .entry)) (now (words .entry))) (now (levels .entry)) (now (waits .entry))) ⌝ }
 {
-    let mut r = tasks;
     let mut i: usize = 0;
     while i < 24 {
         let t = q[i];
         if t == 0 {
-            return r;
+            return;
         }
-        let k = task_at(r, t as usize);
+        let at = t as usize;
+        let k = record_at(bytes, words, at);
         let x = records::told(news, k);
         requeue(levels, waits, t, k, x);
-        if 25 <= t {
-            i = i + 1;
-            continue;
-        }
-        r[t as usize] = x;
+        put_record(bytes, words, at, x);
         i = i + 1;
     }
-    r
 }

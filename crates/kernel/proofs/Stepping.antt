@@ -15,14 +15,53 @@ use Rattle.model.specs.declared.Answer.{Answer}
 use Rattle.model.specs.Row.{bestFrom}
 use Rattle.model.specs.Task.{noTask}
 use Rattle.model.specs.State.{task, running, semaphore, flag}
-use Rattle.model.specs.Effect.{carried}
+use Rattle.model.specs.Effect.{carried, ticked}
 use Rattle.model.specs.Call.{named, subject, plan, planned, step}
+use Rattle.model.specs.declared.Effect.{Effect}
+use Rattle.model.specs.declared.Effect.the-variants.{Nothing, Moves, Stops, Counts, Deletes, Slices, Ticks, Flags, Tells}
+use Rattle.carry.specs.From.{carriedFrom}
+use Rattle.effects.specs.Parts.{stateOf}
+use Rattle.kernel.specs.declared.Stepped.{Stepped}
+use Rattle.kernel.specs.Answer.{answerOf, plannedFrom, stepFrom}
 
 pub stepped : (s : State) (c : Context) (a : Call) (run m : ℕ) (x : Semaphore) (y : Flag) (t : ℕ) (k : Task) (p : Plan) (s₁ : State) (run₁ : ℕ)
-    → run ≡ bestFrom 30 1 (s .levels) → m ≡ named a → x ≡ semaphore s m → y ≡ flag s m → t ≡ subject a run (x .first) (y .first) → k ≡ getD (s .tasks) t noTask → p ≡ plan c a run k x y
-    → s₁ ≡ carried s (p .effect) → run₁ ≡ bestFrom 30 1 (s₁ .levels)
-    → record { code = p .code; running = run₁; value = p .value; state = s₁ } ≡ step s c a
-unfolding step planned running
-stepped s c a run m x y t k p s₁ run₁ e₁ e₂ e₃ e₉ e₄ e₅ e₆ e₇ e₈ =
-    let q : p ≡ plan c a (bestFrom 30 1 (s .levels)) (task s (subject a (bestFrom 30 1 (s .levels)) (semaphore s (named a) .first) (flag s (named a) .first))) (semaphore s (named a)) (flag s (named a)) = rw (e₅, e₄, e₉, e₃, e₂, e₁) at e₆ in
+    → m ≡ named a → x ≡ semaphore s m → y ≡ flag s m → t ≡ subject a run (x .first) (y .first) → k ≡ getD (s .tasks) t noTask → p ≡ plan c a run k x y
+    → s₁ ≡ carriedFrom run s (p .effect) → run₁ ≡ bestFrom 30 1 (s₁ .levels)
+    → record { code = p .code; running = run₁; value = p .value; state = s₁ } ≡ stepFrom run s c a
+unfolding stepFrom plannedFrom running
+stepped s c a run m x y t k p s₁ run₁ e₂ e₃ e₉ e₄ e₅ e₆ e₇ e₈ =
+    let q : p ≡ plan c a run (task s (subject a run (semaphore s (named a) .first) (flag s (named a) .first))) (semaphore s (named a)) (flag s (named a)) = rw (e₅, e₄, e₉, e₃, e₂) at e₆ in
     rw (← q, e₈, e₇)
+
+-- where `run` runs, the effect and the step are those of the model
+pub carried-from : (s : State) (e : Effect) → carriedFrom (running s) s e ≡ carried s e
+unfolding carriedFrom carried ticked
+carried-from s Nothing = refl
+carried-from s (Moves t x) = refl
+carried-from s (Stops t) = refl
+carried-from s (Counts m n v) = refl
+carried-from s (Deletes m) = refl
+carried-from s (Slices l v) = refl
+carried-from s Ticks = refl
+carried-from s (Flags f a b) = refl
+carried-from s (Tells f w a b) = refl
+
+pub step-from : (s : State) (run : ℕ) (c : Context) (a : Call) → run ≡ bestFrom 30 1 (s .levels) → stepFrom run s c a ≡ step s c a
+unfolding step planned stepFrom plannedFrom running
+step-from s run c a e = rw (e, carried-from s (plannedFrom (running s) s c a .effect))
+
+-- a step of a whole state: its records go into the tables, and those that come out of them are its next ones
+pub whole : (s : State) (c : Context) (a : Call) (run : ℕ) (ts : List Task) (r : Stepped) (ts′ : List Task) (ls ws ss cs ns vs ats bs : List ℕ) (tm : ℕ) (next : List Task)
+    → ts ≡ s .tasks → run ≡ bestFrom 30 1 (s .levels)
+    → answerOf r (stateOf ts′ ls ws ss cs ns vs ats bs tm) ≡ stepFrom run (stateOf ts (s .levels) (s .waits) (s .slices) (s .charges) (s .counts) (s .maxima) (s .attributes) (s .bits) (s .time)) c a
+    → next ≡ ts′ → answerOf r (stateOf next ls ws ss cs ns vs ats bs tm) ≡ step s c a
+whole s c a run ts r ts′ ls ws ss cs ns vs ats bs tm next e b h g =
+    ap (λ (l : List Task). answerOf r (stateOf l ls ws ss cs ns vs ats bs tm)) g
+    ∙ h
+    ∙ ap (λ (l : List Task). stepFrom run (stateOf l (s .levels) (s .waits) (s .slices) (s .charges) (s .counts) (s .maxima) (s .attributes) (s .bits) (s .time)) c a) e
+    ∙ step-from s run c a b
+
+-- who runs after a step is who runs before the next one
+pub runs-on : (r : Answer) (run : ℕ) (s : State) (c : Context) (a : Call) → r ≡ stepFrom run s c a → r .running ≡ bestFrom 30 1 (r .state .levels)
+unfolding stepFrom running
+runs-on r run s c a e = ap (λ (x : Answer). x .running) e ∙ sym (ap (λ (x : Answer). bestFrom 30 1 (x .state .levels)) e)

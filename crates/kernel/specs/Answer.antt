@@ -1,7 +1,27 @@
--- A step's answer, put together from what it returned and the tables it was lent.
+-- A step's answer, put together from what it returned and the tables it was lent, and the step where `run` is said to run.
+-- It is the step of the model where `run` does.
+use Prim.Native.Nat.{ℕ}
 use Rattle.model.specs.declared.State.{State}
 use Rattle.model.specs.declared.Answer.{Answer}
+use Rattle.model.specs.declared.Context.{Context}
+use Rattle.model.specs.declared.Call.{Call}
+use Rattle.model.specs.declared.Plan.{Plan}
+use Rattle.model.specs.State.{task, running, semaphore, flag}
+use Rattle.model.specs.Call.{named, subject, plan}
+use Rattle.carry.specs.From.{carriedFrom}
 use Rattle.kernel.specs.declared.Stepped.{Stepped}
 
 abbrev pub answerOf : Stepped → State → Answer
 answerOf r s = record { code = r .code; running = r .running; value = r .value; state = s }
+
+unfoldable pub plannedFrom : ℕ → State → Context → Call → Plan
+plannedFrom run s c a =
+    let x = semaphore s (named a) in
+    let y = flag s (named a) in
+    plan c a run (task s (subject a run (x .first) (y .first))) x y
+
+unfoldable pub stepFrom : ℕ → State → Context → Call → Answer
+stepFrom run s c a =
+    let p = plannedFrom run s c a in
+    let s₁ = carriedFrom run s (p .effect) in
+    record { code = p .code; running = running s₁; value = p .value; state = s₁ }

@@ -3,14 +3,14 @@
 ghost use mathlib.Core.Path.{_≡_};
 ghost use Rattle.model.specs.State.{fresh};
 ghost use Rattle.model.specs.Call.{step, call};
+ghost use Rattle.stored.specs.Stored.{tasksOf};
 ghost use Rattle.effects.specs.Parts.{stateOf};
-ghost use Rattle.kernel.specs.Answer.{answerOf};
+ghost use Rattle.kernel.specs.Answer.{answerOf, stepFrom};
 use model::Answer;
 use model::Call;
 use model::Code;
 use model::Context;
 use model::State;
-use model::Task;
 
 // Nothing created, time 0 and no slices.
 pub fn fresh() -> State
@@ -36,36 +36,38 @@ pub struct Stepped {
     pub code: Code,
     pub running: u8,
     pub value: u32,
-    pub tasks: [Task; 25],
 }
 
+// The step where `run` runs: whoever takes step after step knows that from the last one.
 pub fn step_in(
-    tasks: [Task; 25],
-    levels: &mut [u8],
-    waits: &mut [u8],
-    slices: &mut [u16],
-    charges: &mut [u16],
-    counts: &mut [u16],
-    maxima: &mut [u16],
-    attributes: &mut [u8],
-    bits: &mut [u32],
+    bytes: &mut [u8; 250],
+    words: &mut [u32; 75],
+    levels: &mut [u8; 744],
+    waits: &mut [u8; 504],
+    slices: &mut [u16; 31],
+    charges: &mut [u16; 31],
+    counts: &mut [u16; 13],
+    maxima: &mut [u16; 13],
+    attributes: &mut [u8; 9],
+    bits: &mut [u32; 9],
     time: &mut u32,
+    run: u8,
     c: Context,
     a: Call,
 ) -> Stepped
-    ensures { λ r. ⌜ answerOf r (stateOf (r .tasks) (now (levels .exit)) (now (waits .exit)) (now (slices .exit)) (now (charges .exit)) (now (counts .exit)) (now (maxima .exit)) (now (attributes .exit)) (now (bits .exit)) (now (time .exit))) ≡ step (stateOf tasks (now (levels .entry)) (now (waits .entry)) (now (slices .entry)) (now (charges .entry)) (now (counts .entry)) (now (maxima .entry)) (now (attributes .entry)) (now (bits .entry)) (now (time .entry))) c a ⌝ }
+    ensures { λ r. ⌜ answerOf r (stateOf (tasksOf (now (bytes .exit)) (now (words .exit))) (now (levels .exit)) (now (waits .exit)) (now (slices .exit)) (now (charges .exit)) (now (counts .exit)) (now (maxima .exit)) (now (attributes .exit)) (now (bits .exit)) (now (time .exit))) ≡ stepFrom run (stateOf (tasksOf (now (bytes .entry)) (now (words .entry))) (now (levels .entry)) (now (waits .entry)) (now (slices .entry)) (now (charges .entry)) (now (counts .entry)) (now (maxima .entry)) (now (attributes .entry)) (now (bits .entry)) (now (time .entry))) c a ⌝ }
 {
-    let run = rows::best(levels);
     let named = plans::named(a);
     let x = effects::semaphore_at(counts, maxima, waits, named);
     let y = effects::flag_at(attributes, bits, waits, named);
-    let k = effects::task_at(tasks, plans::subject(a, run, x.first, y.first));
+    let k = stored::record_at(bytes, words, plans::subject(a, run, x.first, y.first));
     let p = plans::plan(c, a, run, k, x, y);
     let code = p.code;
     let value = p.value;
     let effect = p.effect;
-    let next = carry::carry(
-        tasks,
+    carry::carry(
+        bytes,
+        words,
         levels,
         waits,
         slices,
@@ -75,6 +77,7 @@ pub fn step_in(
         attributes,
         bits,
         time,
+        run,
         effect,
     );
     let running = rows::best(levels);
@@ -82,7 +85,6 @@ pub fn step_in(
         code,
         running,
         value,
-        tasks: next,
     }
 }
 
@@ -91,6 +93,9 @@ pub fn step(s: State, c: Context, a: Call) -> Answer
     ensures { λ r. ⌜ r ≡ step s c a ⌝ }
 {
     let tasks = s.tasks;
+    let mut bytes = [0u8; 250];
+    let mut words = [0u32; 75];
+    stored::spread(&mut bytes, &mut words, tasks);
     let mut levels = s.levels;
     let mut waits = s.waits;
     let mut slices = s.slices;
@@ -100,8 +105,10 @@ pub fn step(s: State, c: Context, a: Call) -> Answer
     let mut attributes = s.attributes;
     let mut bits = s.bits;
     let mut time = s.time;
+    let run = rows::best(&levels);
     let r = step_in(
-        tasks,
+        &mut bytes,
+        &mut words,
         &mut levels,
         &mut waits,
         &mut slices,
@@ -111,10 +118,11 @@ pub fn step(s: State, c: Context, a: Call) -> Answer
         &mut attributes,
         &mut bits,
         &mut time,
+        run,
         c,
         a,
     );
-    let next = r.tasks;
+    let next = stored::gather(&bytes, &words);
     let code = r.code;
     Answer {
         code,

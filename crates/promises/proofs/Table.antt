@@ -1,5 +1,6 @@
 -- The table of all public functions, crate by crate: a row cites a function's contract, that the function keeps it, and the law by which it is tight.
 -- Rests on the generated modules of the crates named below, and on Laws.
+use mathlib.Core.Path.{refl}
 use mathlib.Core.List.{List, [], _∷_}
 use Rattle.records.proofs as records
 use Rattle.rows.proofs as rows
@@ -10,6 +11,7 @@ use Rattle.plans_event.proofs as plans_event
 use Rattle.plans.proofs as plans
 use Rattle.crossing.proofs as crossing
 use Rattle.sound.proofs as sound
+use Rattle.stored.proofs as stored
 use Rattle.effects.proofs as effects
 use Rattle.carry.proofs as carry
 use Rattle.kernel.proofs as kernel
@@ -19,7 +21,7 @@ use Rattle.text.proofs as text
 use Rattle.lines.proofs as lines
 use Rattle.runner.proofs as runner
 use Rattle.promises.specs.Tight.{Promise}
-use Rattle.promises.proofs.Laws.{of, plain, fixed, result, buffer, buffers, both, besides, answer, queues, tables}
+use Rattle.promises.proofs.Laws.{of, typed, plain, given, fixed, result, buffer, buffers, both, besides, answer, queues, tables, lent, words}
 
 pub of-records : List Promise
 of-records =
@@ -140,6 +142,15 @@ of-sound =
     of sound.flag.is_unmet.signature (λ M. sound.flag.is_unmet.clauses) (λ M. sound.flag.is_unmet.Met.met) (λ w κs a g h o p. plain w result) ∷
     []
 
+pub of-stored : List Promise
+of-stored =
+    of stored.record_at.signature (λ M. stored.record_at.clauses) (λ M. stored.record_at.Met.met) (λ w κs a g h o p. plain w result) ∷
+    typed stored.put_record.signature (λ M. stored.put_record.clauses) (λ M. stored.put_record.Met.met) (λ w κs a g h o p. given w (λ i j. lent (λ l. l) (λ b v l. (tt, (b, (v, _)))) i j refl refl)) ∷
+    typed stored.put_remaining.signature (λ M. stored.put_remaining.clauses) (λ M. stored.put_remaining.Met.met) (λ w κs a g h o p. given w (λ i j. words (a .0 .now) i j)) ∷
+    typed stored.spread.signature (λ M. stored.spread.clauses) (λ M. stored.spread.Met.met) (λ w κs a g h o p. given w (λ i j. lent (λ l. l) (λ b v l. (tt, (b, (v, _)))) i j refl refl)) ∷
+    of stored.gather.signature (λ M. stored.gather.clauses) (λ M. stored.gather.Met.met) (λ w κs a g h o p. plain w result) ∷
+    []
+
 pub of-effects : List Promise
 of-effects =
     of effects.number_at.signature (λ M. effects.number_at.clauses) (λ M. effects.number_at.Met.met) (λ w κs a g h o p. plain w result) ∷
@@ -148,29 +159,28 @@ of-effects =
     of effects.put_byte.signature (λ M. effects.put_byte.clauses) (λ M. effects.put_byte.Met.met) (λ w κs a g h o p. plain w buffer) ∷
     of effects.bits_at.signature (λ M. effects.bits_at.clauses) (λ M. effects.bits_at.Met.met) (λ w κs a g h o p. plain w result) ∷
     of effects.put_bits.signature (λ M. effects.put_bits.clauses) (λ M. effects.put_bits.Met.met) (λ w κs a g h o p. plain w buffer) ∷
-    of effects.task_at.signature (λ M. effects.task_at.clauses) (λ M. effects.task_at.Met.met) (λ w κs a g h o p. plain w result) ∷
     of effects.semaphore_at.signature (λ M. effects.semaphore_at.clauses) (λ M. effects.semaphore_at.Met.met) (λ w κs a g h o p. plain w result) ∷
     of effects.flag_at.signature (λ M. effects.flag_at.clauses) (λ M. effects.flag_at.Met.met) (λ w κs a g h o p. plain w result) ∷
     of effects.requeue.signature (λ M. effects.requeue.clauses) (λ M. effects.requeue.Met.met) (λ w κs a g h o p. plain w buffers) ∷
     of effects.charge.signature (λ M. effects.charge.clauses) (λ M. effects.charge.Met.met) (λ w κs a g h o p. plain w (fixed λ s. (tt, (s .levels, (tt, (s .charges, _)))))) ∷
     of effects.ran_out.signature (λ M. effects.ran_out.clauses) (λ M. effects.ran_out.Met.met) (λ w κs a g h o p. plain w result) ∷
-    of effects.lapse.signature (λ M. effects.lapse.clauses) (λ M. effects.lapse.Met.met) (λ w κs a g h o p. plain w (fixed λ s. (s .tasks, (tt, queues s _)))) ∷
-    of effects.tell_all.signature (λ M. effects.tell_all.clauses) (λ M. effects.tell_all.Met.met) (λ w κs a g h o p. plain w (fixed λ s. (s .tasks, (tt, queues s _)))) ∷
+    typed effects.lapse.signature (λ M. effects.lapse.clauses) (λ M. effects.lapse.Met.met) (λ w κs a g h o p. given w (λ i j. lent (λ s. s .tasks) (λ b v s. (tt, (b, (v, queues s _)))) i j refl refl)) ∷
+    typed effects.tell_all.signature (λ M. effects.tell_all.clauses) (λ M. effects.tell_all.Met.met) (λ w κs a g h o p. given w (λ i j. lent (λ s. s .tasks) (λ b v s. (tt, (b, (v, queues s _)))) i j refl refl)) ∷
     []
 
 pub of-carry : List Promise
 of-carry =
-    of carry.move_task.signature (λ M. carry.move_task.clauses) (λ M. carry.move_task.Met.met) (λ w κs a g h o p. plain w (fixed λ s. (s .tasks, (tt, queues s _)))) ∷
-    of carry.stop_task.signature (λ M. carry.stop_task.clauses) (λ M. carry.stop_task.Met.met) (λ w κs a g h o p. plain w (fixed λ s. (s .tasks, (tt, queues s _)))) ∷
+    typed carry.move_task.signature (λ M. carry.move_task.clauses) (λ M. carry.move_task.Met.met) (λ w κs a g h o p. given w (λ i j. lent (λ s. s .tasks) (λ b v s. (tt, (b, (v, queues s _)))) i j refl refl)) ∷
+    typed carry.stop_task.signature (λ M. carry.stop_task.clauses) (λ M. carry.stop_task.Met.met) (λ w κs a g h o p. given w (λ i j. lent (λ s. s .tasks) (λ b v s. (tt, (b, (v, queues s _)))) i j refl refl)) ∷
     of carry.copy_row.signature (λ M. carry.copy_row.clauses) (λ M. carry.copy_row.Met.met) (λ w κs a g h o p. plain w result) ∷
     of carry.charge_running.signature (λ M. carry.charge_running.clauses) (λ M. carry.charge_running.Met.met) (λ w κs a g h o p. plain w (fixed λ s. (tt, (s .levels, (tt, (s .charges, _)))))) ∷
-    of carry.carry.signature (λ M. carry.carry.clauses) (λ M. carry.carry.Met.met) (λ w κs a g h o p. plain w (fixed λ s. (s .tasks, (tt, tables s _)))) ∷
+    typed carry.carry.signature (λ M. carry.carry.clauses) (λ M. carry.carry.Met.met) (λ w κs a g h o p. given w (λ i j. lent (λ s. s .tasks) (λ b v s. (tt, (b, (v, tables s _)))) i j refl refl)) ∷
     []
 
 pub of-kernel : List Promise
 of-kernel =
     of kernel.fresh.signature (λ M. kernel.fresh.clauses) (λ M. kernel.fresh.Met.met) (λ w κs a g h o p. plain w result) ∷
-    of kernel.step_in.signature (λ M. kernel.step_in.clauses) (λ M. kernel.step_in.Met.met) (λ w κs a g h o p. plain w (fixed λ n. (record { code = n .code; running = n .running; value = n .value; tasks = n .state .tasks }, (tt, tables (n .state) _)))) ∷
+    typed kernel.step_in.signature (λ M. kernel.step_in.clauses) (λ M. kernel.step_in.Met.met) (λ w κs a g h o p. given w (λ i j. lent (λ n. n .state .tasks) (λ b v n. (record { code = n .code; running = n .running; value = n .value }, (b, (v, tables (n .state) _)))) i j refl refl)) ∷
     of kernel.step.signature (λ M. kernel.step.clauses) (λ M. kernel.step.Met.met) (λ w κs a g h o p. plain w result) ∷
     of kernel.call.signature (λ M. kernel.call.clauses) (λ M. kernel.call.Met.met) (λ w κs a g h o p. plain w result) ∷
     []

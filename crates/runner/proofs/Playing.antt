@@ -6,14 +6,19 @@ use mathlib.Core.Bool.{Bool}
 use mathlib.Core.List.{List, [], _∷_, _++_, map, append-nil, append-assoc}
 use native.Mathlib.Numerals.{add-one}
 use native.Mathlib.Omega.{arith}
-use lib.ListN.{length, set, take, drop, length-append, length-drop, length-set, length-map}
+use lib.ListN.{length, replicate, set, take, drop, length-append, length-drop, length-set, length-map}
 use lib.Seq.{take-suc-set, length-take-le, append-snoc}
 use Rattle.model.specs.declared.State.{State}
 use Rattle.model.specs.declared.Answer.{Answer}
 use Rattle.model.specs.declared.Context.{Context}
 use Rattle.model.specs.declared.Call.{Call}
+use Rattle.model.specs.Row.{bestFrom}
+use Rattle.model.specs.Task.{noTask}
 use Rattle.model.specs.State.{fresh}
 use Rattle.model.specs.Call.{step}
+use Rattle.kernel.specs.Answer.{stepFrom}
+use Rattle.kernel.proofs.Stepping.{step-from}
+use Rattle.stored.specs.Stored.{recordAt, recordsFrom, tasksOf}
 use Rattle.lines.specs.declared.line.Line.{Line}
 use Rattle.lines.specs.declared.line.Line.the-variants.{Reads, Unreadable}
 use Rattle.lines.specs.Lines.{lineOf}
@@ -113,10 +118,11 @@ module _ (wide : Bool) (file : List ℕ) (h : ℕ) (cs rs : List ℕ) (at n size
       keeps = omega (arith, l .behind, l .inside)
 
       -- the call's row, and what is left after it
-      pub turns : (r : Answer) (v k : ℕ) → r ≡ step s x c → v ≡ slotOf (r .code) → k ≡ length (keptText (n + 1) v (r .running)) → k ≤ 20
+      pub turns : (run : ℕ) (r : Answer) (v k : ℕ) → run ≡ bestFrom 30 1 (s .levels) → r ≡ stepFrom run s x c → v ≡ slotOf (r .code) → k ≡ length (keptText (n + 1) v (r .running)) → k ≤ 20
           → Left wide file h (set cs n v) (set rs n (r .running)) (at + m) (n + 1) (size + k) (r .state)
       unfolding faultOf rowsBy rowsText
-      turns r v k e f g w =
+      turns run r v k b d′ f g w =
+          let e : r ≡ step s x c = d′ ∙ step-from s run x c b in
           let o : n + 2 + 1 ≡ n + 1 + 2 = omega arith in
           let d : rest wide file at n ≡ next x c (rest wide file (at + m) (n + 1)) = script-next wide file at (n + 2) x c m more (omega (arith, long)) reads ∙ rw o in
           let y : Row = record { code = r .code; running = r .running } in
@@ -133,3 +139,12 @@ module _ (wide : Bool) (file : List ℕ) (h : ℕ) (cs rs : List ℕ) (at n size
             runs = kept-on rs n (r .running) _ _ (omega (arith, l .runs#, keeps)) (rw z at (l .runs));
             total = omega (arith, t, length-append (rowText (n + 1) y) (rowsText (n + 1 + 1) (rowsBy step (r .state) (rest wide file (at + m) (n + 1)))), ap length (row-kept (n + 1) y), ap (λ (u : ℕ). length (keptText (n + 1) u (r .running))) f);
           }
+
+-- tables of zeros are the fresh state's, and there nobody runs
+pub blank : tasksOf (replicate 250 0) (replicate 75 0) ≡ replicate 25 noTask
+unfolding tasksOf recordsFrom recordAt
+blank = refl
+
+pub idle : 0 ≡ bestFrom 30 1 (replicate 744 0)
+unfolding bestFrom
+idle = refl

@@ -105,8 +105,8 @@ fn play(file: &[u8], wide: bool, h: usize) -> Played
     let mut at = h;
     let mut n: usize = 0;
     let mut total: usize = 16;
-    let none = records::no_task();
-    let mut tasks = [none; 25];
+    let mut bytes = [0u8; 250];
+    let mut words = [0u32; 75];
     let mut levels = [0u8; 744];
     let mut waits = [0u8; 504];
     let mut slices = [0u16; 31];
@@ -116,6 +116,7 @@ fn play(file: &[u8], wide: bool, h: usize) -> Played
     let mut attributes = [0u8; 9];
     let mut bits = [0u32; 9];
     let mut time: u32 = 0;
+    let mut run: u8 = 0;
     while at < file.len() {
         let Line::Reads {
             context,
@@ -132,7 +133,8 @@ fn play(file: &[u8], wide: bool, h: usize) -> Played
             };
         };
         let r = kernel::step_in(
-            tasks,
+            &mut bytes,
+            &mut words,
             &mut levels,
             &mut waits,
             &mut slices,
@@ -142,13 +144,13 @@ fn play(file: &[u8], wide: bool, h: usize) -> Played
             &mut attributes,
             &mut bits,
             &mut time,
+            run,
             context,
             call,
         );
         let code = r.code;
         let running = r.running;
-        let after = r.tasks;
-        tasks = after;
+        run = running;
         let v = slot(code);
         codes[n] = v;
         runs[n] = running;

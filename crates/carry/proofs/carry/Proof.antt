@@ -73,14 +73,8 @@ put-number-requires-6 c κs = search needs
 enum-told-2 : tie.Need-enum-told-2
 enum-told-2 c = search needs
 
-best-requires : tie.Need-best-requires
-best-requires c κs = search needs
-
-cast-task-at : tie.Need-cast-task-at
-cast-task-at c = search needs
-
-task-at-requires : tie.Need-task-at-requires
-task-at-requires c κs = search needs
+record-at-requires : tie.Need-record-at-requires
+record-at-requires c κs = search needs
 
 wrapping-add-u32-requires : tie.Need-wrapping-add-u32-requires
 wrapping-add-u32-requires c κs = search needs
@@ -131,7 +125,7 @@ put-bits-requires-2 : tie.Need-put-bits-requires-2
 put-bits-requires-2 c κs = search needs
 
 returns : tie.Need-returns
-returns c = law.nothing _ _ _ _ _ _ _ _ _ _ _ (c .enum-told .given .1)
+returns c = law.nothing _ _ _ _ _ _ _ _ _ _ _ _ (c .enum-told .given .1)
 
 same-length : tie.Need-same-length
 same-length c = search needs
@@ -140,7 +134,7 @@ same-length-2 : tie.Need-same-length-2
 same-length-2 c = search needs
 
 returns-2 : tie.Need-returns-2
-returns-2 c = law.moves _ _ _ _ _ _ _ _ _ _ _ _ _ _ _ _ (c .before .before .before .before .before .before .before .before .e .given .1) (c .before .before .before .before .move-task .ensures)
+returns-2 c = law.moves _ _ _ _ _ _ _ _ _ _ _ _ _ _ _ _ _ (c .before .before .before .before .before .before .before .before .before .before .e .given .1) (c .before .before .before .before .move-task .ensures)
 
 same-length-3 : tie.Need-same-length-3
 same-length-3 c = search needs
@@ -149,7 +143,7 @@ same-length-4 : tie.Need-same-length-4
 same-length-4 c = search needs
 
 returns-3 : tie.Need-returns-3
-returns-3 c = law.stops _ _ _ _ _ _ _ _ _ _ _ _ _ _ _ (c .before .before .before .before .before .before .before .before .e2 .given .1) (c .before .before .before .before .stop-task .ensures)
+returns-3 c = law.stops _ _ _ _ _ _ _ _ _ _ _ _ _ _ _ _ (c .before .before .before .before .before .before .before .before .before .before .e2 .given .1) (c .before .before .before .before .stop-task .ensures)
 
 same-length-5 : tie.Need-same-length-5
 same-length-5 c = search needs
@@ -158,7 +152,7 @@ same-length-6 : tie.Need-same-length-6
 same-length-6 c = search needs
 
 returns-4 : tie.Need-returns-4
-returns-4 c = law.counts _ _ _ _ _ _ _ _ _ _ _ _ _ _ _ _ (c .before .before .before .before .before .before .before .before .before .e3 .given .1) (c .before .before .before .before .before .before .put-number .ensures) (c .before .before .put-number2 .ensures)
+returns-4 c = law.counts _ _ _ _ _ _ _ _ _ _ _ _ _ _ _ _ _ (c .before .before .before .before .before .before .before .before .before .e3 .given .1) (c .before .before .before .before .before .before .put-number .ensures) (c .before .before .put-number2 .ensures)
 
 same-length-7 : tie.Need-same-length-7
 same-length-7 c = search needs
@@ -173,7 +167,7 @@ same-length-10 : tie.Need-same-length-10
 same-length-10 c = search needs
 
 returns-5 : tie.Need-returns-5
-returns-5 c = law.deletes _ _ _ _ _ _ _ _ _ _ _ _ _ _ _ _ _ _ (c .before .before .before .before .before .before .before .before .before .before .before .before .before .before .before .before .before .before .e4 .given .1) (c .before .before .before .before .before .before .before .before .before .before .before .before .before .before .before .copy-row .ensures) (c .before .before .before .before .before .before .before .before .before .before .before .before .tell-all .ensures) (c .before .before .before .before .before .before .put-number3 .ensures) (c .before .before .put-number4 .ensures)
+returns-5 c = law.deletes _ _ _ _ _ _ _ _ _ _ _ _ _ _ _ _ _ _ _ (c .before .before .before .before .before .before .before .before .before .before .before .before .before .before .before .before .before .before .before .before .e4 .given .1) (c .before .before .before .before .before .before .before .before .before .before .before .before .before .before .before .before .before .copy-row .ensures) (c .before .before .before .before .before .before .before .before .before .before .before .before .tell-all .ensures) (c .before .before .before .before .before .before .put-number3 .ensures) (c .before .before .put-number4 .ensures)
 
 same-length-11 : tie.Need-same-length-11
 same-length-11 c = search needs
@@ -182,7 +176,7 @@ same-length-12 : tie.Need-same-length-12
 same-length-12 c = search needs
 
 returns-6 : tie.Need-returns-6
-returns-6 c = law.slices _ _ _ _ _ _ _ _ _ _ _ _ _ _ _ (c .before .before .before .before .before .before .before .before .before .e5 .given .1) (c .before .before .before .before .before .before .put-number5 .ensures) (c .before .before .put-number6 .ensures)
+returns-6 c = law.slices _ _ _ _ _ _ _ _ _ _ _ _ _ _ _ _ (c .before .before .before .before .before .before .before .before .before .e5 .given .1) (c .before .before .before .before .before .before .put-number5 .ensures) (c .before .before .put-number6 .ensures)
 
 same-length-13 : tie.Need-same-length-13
 same-length-13 c = search needs
@@ -197,7 +191,7 @@ same-length-16 : tie.Need-same-length-16
 same-length-16 c = search needs
 
 returns-7 : tie.Need-returns-7
-returns-7 c = law.ticks _ _ _ _ _ _ _ _ _ _ _ _ _ _ _ _ _ _ _ (c .before .before .before .before .before .before .before .before .before .before .before .before .before .before .before .before .before .before .before .before .enum-told2 .given .1) (c .before .before .before .before .before .before .before .before .before .before .before .before .before .before .before .before .before .before .best .ensures) (c .before .before .before .before .before .before .before .before .before .before .before .before .before .before .before .before .before .task-at .ensures) (c .before .before .before .before .before .before .before .before .before .before .before .before .before .before .before .wrapping-add-u32 .ensures) (c .before .before .before .before .before .before .before .before .before .before .before .charge-running .ensures) (c .before .before .before .before .lapse .ensures)
+returns-7 c = law.ticks _ _ _ _ _ _ _ _ _ _ _ _ _ _ _ _ _ _ _ (c .before .before .before .before .before .before .before .before .before .before .before .before .before .before .before .before .before .before .before .before .before .before .enum-told2 .given .1) (c .before .before .before .before .before .before .before .before .before .before .before .before .before .before .before .before .before .before .before .record-at .ensures) (c .before .before .before .before .before .before .before .before .before .before .before .before .before .before .before .before .before .wrapping-add-u32 .ensures) (c .before .before .before .before .before .before .before .before .before .before .before .before .before .charge-running .ensures) (c .before .before .before .before .lapse .ensures)
 
 same-length-17 : tie.Need-same-length-17
 same-length-17 c = search needs
@@ -206,7 +200,7 @@ same-length-18 : tie.Need-same-length-18
 same-length-18 c = search needs
 
 returns-8 : tie.Need-returns-8
-returns-8 c = law.flags _ _ _ _ _ _ _ _ _ _ _ _ _ _ _ _ (c .before .before .before .before .before .before .before .before .before .e6 .given .1) (c .before .before .before .before .before .before .put-byte .ensures) (c .before .before .put-bits .ensures)
+returns-8 c = law.flags _ _ _ _ _ _ _ _ _ _ _ _ _ _ _ _ _ (c .before .before .before .before .before .before .before .before .before .e6 .given .1) (c .before .before .before .before .before .before .put-byte .ensures) (c .before .before .put-bits .ensures)
 
 same-length-19 : tie.Need-same-length-19
 same-length-19 c = search needs
@@ -221,7 +215,7 @@ same-length-22 : tie.Need-same-length-22
 same-length-22 c = search needs
 
 returns-9 : tie.Need-returns-9
-returns-9 c = law.tells _ _ _ _ _ _ _ _ _ _ _ _ _ _ _ _ _ _ _ _ _ _ (c .before .before .before .before .before .before .before .before .before .before .before .before .before .before .before .before .before .before .before .e7 .given .1) (c .before .before .before .before .before .before .before .before .before .before .before .before .before .before .before .before .flag-row .ensures) (c .before .before .before .before .before .before .before .before .before .before .before .before .before .before .before .copy-row2 .ensures) (c .before .before .before .before .before .before .before .before .before .before .before .before .tell-all2 .ensures) (c .before .before .before .before .before .before .put-byte2 .ensures) (c .before .before .put-bits2 .ensures)
+returns-9 c = law.tells _ _ _ _ _ _ _ _ _ _ _ _ _ _ _ _ _ _ _ _ _ _ _ (c .before .before .before .before .before .before .before .before .before .before .before .before .before .before .before .before .before .before .before .before .before .e7 .given .1) (c .before .before .before .before .before .before .before .before .before .before .before .before .before .before .before .before .before .before .flag-row .ensures) (c .before .before .before .before .before .before .before .before .before .before .before .before .before .before .before .before .before .copy-row2 .ensures) (c .before .before .before .before .before .before .before .before .before .before .before .before .tell-all2 .ensures) (c .before .before .before .before .before .before .put-byte2 .ensures) (c .before .before .put-bits2 .ensures)
 
 pub carry-spec : {M : Type 1} → statement M
 carry-spec =
@@ -250,9 +244,7 @@ carry-spec =
     cast-put-number-6
     put-number-requires-6
     enum-told-2
-    best-requires
-    cast-task-at
-    task-at-requires
+    record-at-requires
     wrapping-add-u32-requires
     charge-running-requires
     lapse-requires

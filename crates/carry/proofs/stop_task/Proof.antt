@@ -4,8 +4,8 @@ use borrow.Author.Needs.{needs}
 use Rattle.carry.proofs.stop_task.Statement.{statement}
 use Rattle.carry.proofs.stop_task.Tie as tie
 
-task-at-requires : tie.Need-task-at-requires
-task-at-requires c κs = search needs
+record-at-requires : tie.Need-record-at-requires
+record-at-requires c κs = search needs
 
 dormant-requires : tie.Need-dormant-requires
 dormant-requires c κs = search needs
@@ -20,7 +20,7 @@ same-length-2 : tie.Need-same-length-2
 same-length-2 c = search needs
 
 returns : tie.Need-returns
-returns c = law.rests _ _ _ _ _ _ _ _ _ (c .before .before .before .before .before .before .before .before .before .task-at .ensures) (c .before .before .before .before .before .before .before .before .dormant .ensures) (c .before .before .before .before .before .move-task .ensures) (c .if1 .taken)
+returns c = law.rests _ _ _ _ _ _ _ _ _ (c .before .before .before .before .before .before .before .before .before .before .before .record-at .ensures) (c .before .before .before .before .before .before .before .before .before .before .dormant .ensures) (c .before .before .before .before .before .move-task .ensures) (c .if1 .taken)
 
 activated-requires : tie.Need-activated-requires
 activated-requires c κs = search needs
@@ -35,13 +35,13 @@ same-length-4 : tie.Need-same-length-4
 same-length-4 c = search needs
 
 returns-2 : tie.Need-returns-2
-returns-2 c = law.starts _ _ _ _ _ _ _ _ _ (c .before .before .before .before .before .before .before .before .before .before .before .before .before .before .before .before .before .task-at .ensures) (c .before .before .before .before .before .before .before .before .before .before .before .before .before .before .before .before .dormant .ensures) (c .before .before .before .before .before .before .before .before .before .before .before .before .before .move-task .ensures) _ _ _ _ (c .before .before .before .before .before .before .before .before .if1 .left) (c .before .before .before .before .before .activated .ensures) (c .before .before .before .before .move-task2 .ensures)
+returns-2 c = law.starts _ _ _ _ _ _ _ _ _ (c .before .before .before .before .before .before .before .before .before .before .before .before .before .before .before .before .before .before .before .before .before .record-at .ensures) (c .before .before .before .before .before .before .before .before .before .before .before .before .before .before .before .before .before .before .before .before .dormant .ensures) (c .before .before .before .before .before .before .before .before .before .before .before .before .before .before .before .move-task .ensures) _ _ _ _ (c .before .before .before .before .before .before .before .before .before .before .if1 .left) (c .before .before .before .before .before .activated .ensures) (c .before .before .before .before .move-task2 .ensures)
 
 pub stop-task-spec : {M : Type 1} → statement M
 stop-task-spec =
     tie.close
     (tie.spec
-    task-at-requires
+    record-at-requires
     dormant-requires
     move-task-requires
     same-length

@@ -1,0 +1,93 @@
+// The records of all tasks in two tables of plain numbers, ten bytes for each and three words, read and changed where they lie.
+// A table of records can't be lent, these can. Each function is a definition of specs/Stored; it rests on the records.
+ghost use mathlib.Core.Path.{_≡_};
+ghost use lib.ListN.{getD, set};
+ghost use Rattle.model.specs.Task.{noTask, withRemaining};
+ghost use Rattle.stored.specs.Stored.{tasksOf};
+use model::Task;
+
+// The record of a task; a number that names none has zeros.
+pub fn record_at(bytes: &[u8; 250], words: &[u32; 75], t: usize) -> Task
+    ensures { λ r. ⌜ r ≡ getD (tasksOf (now (bytes .entry)) (now (words .entry))) t noTask ⌝ }
+{
+    if 24 < t {
+        return records::no_task();
+    }
+    let i = t * 10;
+    Task {
+        base: bytes[i],
+        priority: bytes[i + 1],
+        active: bytes[i + 2],
+        suspended: bytes[i + 3],
+        wait: bytes[i + 4],
+        object: bytes[i + 5],
+        wakeups: bytes[i + 6],
+        activations: bytes[i + 7],
+        code: bytes[i + 8],
+        mode: bytes[i + 9],
+        remaining: words[t],
+        pattern: words[t + 25],
+        handed: words[t + 50],
+    }
+}
+
+// A task's record is replaced; a number that names none changes nothing.
+pub fn put_record(bytes: &mut [u8; 250], words: &mut [u32; 75], t: usize, x: Task)
+    ensures { λ r. ⌜ tasksOf (now (bytes .exit)) (now (words .exit)) ≡ set (tasksOf (now (bytes .entry)) (now (words .entry))) t x ⌝ }
+{
+    if 24 < t {
+        return;
+    }
+    let i = t * 10;
+    let b: &mut [u8] = bytes;
+    let w: &mut [u32] = words;
+    b[i] = x.base;
+    b[i + 1] = x.priority;
+    b[i + 2] = x.active;
+    b[i + 3] = x.suspended;
+    b[i + 4] = x.wait;
+    b[i + 5] = x.object;
+    b[i + 6] = x.wakeups;
+    b[i + 7] = x.activations;
+    b[i + 8] = x.code;
+    b[i + 9] = x.mode;
+    w[t] = x.remaining;
+    w[t + 25] = x.pattern;
+    w[t + 50] = x.handed;
+}
+
+// What is left of a task's timeout is replaced, and nothing else of its record.
+pub fn put_remaining(bytes: &[u8; 250], words: &mut [u32; 75], t: usize, left: u32)
+    ensures { λ r. ⌜ tasksOf (now (bytes .entry)) (now (words .exit)) ≡ set (tasksOf (now (bytes .entry)) (now (words .entry))) t (withRemaining (getD (tasksOf (now (bytes .entry)) (now (words .entry))) t noTask) left) ⌝ }
+{
+    if 24 < t {
+        return;
+    }
+    let w: &mut [u32] = words;
+    w[t] = left;
+}
+
+// A table of records goes into the two tables,
+pub fn spread(bytes: &mut [u8; 250], words: &mut [u32; 75], tasks: [Task; 25])
+    ensures { λ r. ⌜ tasksOf (now (bytes .exit)) (now (words .exit)) ≡ tasks ⌝ }
+{
+    let mut t: usize = 0;
+    while t < 25 {
+        put_record(bytes, words, t, tasks[t]);
+        t = t + 1;
+    }
+}
+
+// and comes out of them.
+pub fn gather(bytes: &[u8; 250], words: &[u32; 75]) -> [Task; 25]
+    ensures { λ r. ⌜ r ≡ tasksOf (now (bytes .entry)) (now (words .entry)) ⌝ }
+{
+    let none = records::no_task();
+    let mut r = [none; 25];
+    let mut t: usize = 0;
+    while t < 25 {
+        r[t] = record_at(bytes, words, t);
+        t = t + 1;
+    }
+    r
+}
