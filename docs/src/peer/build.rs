@@ -1,5 +1,5 @@
-//! Gives the differential tests the proved library: linked, when GRITGARLAND_LIB_DIR names the directory of libgritgarland.a,
-//! or behind a pipe, when GRITGARLAND_SERVE is the command that serves it.
+//! Gives the differential tests and the benchmark the proved library: linked, when GRITGARLAND_LIB_DIR names the directory of
+//! libgritgarland.a, or, the tests alone, behind a pipe, when GRITGARLAND_SERVE is the command that serves it.
 
 fn main() {
     println!("cargo:rustc-check-cfg=cfg(library)");
