@@ -1,6 +1,6 @@
 -- Each effect on the whole state, from what its parts say of the tables they were lent: one law for each arm of `carry`.
 -- Rests on Local.
-use mathlib.Core.Path.{_≡_, refl, sym, ap, _∙_}
+use mathlib.Core.Path.{_≡_, _∙_}
 use mathlib.Core.Bool.{cond}
 use mathlib.Core.List.{List}
 use Prim.Native.Nat.{ℕ, _+_, _*_, _%_, _^_}
@@ -14,7 +14,7 @@ use Rattle.model.specs.declared.Effect.{Effect}
 use Rattle.model.specs.declared.Effect.the-variants.{Nothing, Moves, Stops, Counts, Deletes, Slices, Ticks, Flags, Tells}
 use Rattle.model.specs.Flag.{flagRow}
 use Rattle.model.specs.Task.{noTask}
-use Rattle.model.specs.State.{task, moved, counted, flagged, sliced, withTime}
+use Rattle.model.specs.State.{moved, counted, flagged, sliced, withTime}
 use Rattle.model.specs.Effect.{carried, stopped, deleted, toldFlag, toldAll, charged, chargedLevel, lapsed}
 use Rattle.effects.specs.Parts.{listed, rated, places, stateOf}
 use Rattle.carry.specs.From.{carriedFrom}

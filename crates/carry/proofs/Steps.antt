@@ -1,5 +1,5 @@
 -- One task's move and stop in the tables of tasks and queues, way by way. Rests on the definitions alone.
-use mathlib.Core.Path.{_≡_, refl, sym, ap, _∙_}
+use mathlib.Core.Path.{_≡_}
 use mathlib.Core.List.{List}
 use Prim.Native.Nat.{ℕ}
 use lib.ListN.{getD, set}

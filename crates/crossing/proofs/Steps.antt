@@ -1,7 +1,7 @@
 -- Laws by which the loops of crossing off go on, from one place to the next and from one row to the next.
 -- Rests on specs/Crossing.
 use mathlib.Core.Path.{_≡_, sym, _∙_}
-use mathlib.Core.Bool.{Bool, true, false, _&&_, not, and-false}
+use mathlib.Core.Bool.{Bool, true, false, _&&_, not, and-assoc, and-true, and-false}
 use mathlib.Core.List.{List}
 use Prim.Native.Nat.{ℕ, suc, _+_, _-_, _≤_, _<_}
 use native.Mathlib.Decide.{ℕ-discrete, decLt}
@@ -19,20 +19,16 @@ module _ (q : List ℕ) (i : ℕ) where
   -- what was seen and what is left say it of the whole, one place further on
   pub zeros-on : (clear r : Bool) → i < length q → r ≡ (clear && zeros (drop i q)) → r ≡ ((clear && eqb (getD q i 0) 0) && zeros (drop (i + 1) q))
   unfolding zeros
-  zeros-on clear r h e = go clear (rw (drop-cons q i 0 h) at e)
-    where
-      go : (a : Bool) → r ≡ (a && (eqb (getD q i 0) 0 && zeros (drop (suc i) q))) → r ≡ ((a && eqb (getD q i 0) 0) && zeros (drop (i + 1) q))
-      go true f = rw add-one f
-      go false f = f
+  zeros-on clear r h e =
+      let f : r ≡ (clear && (eqb (getD q i 0) 0 && zeros (drop (suc i) q))) = rw (drop-cons q i 0 h) at e in
+      rw add-one (f ∙ sym (and-assoc clear (eqb (getD q i 0) 0) (zeros (drop (suc i) q))))
 
   -- and at the end what was seen
   pub zeros-end : (clear r : Bool) → length q ≤ i → r ≡ (clear && zeros (drop i q)) → clear ≡ r
   unfolding zeros
-  zeros-end clear r h e = go clear (rw (drop-of-length-le q h) at e)
-    where
-      go : (a : Bool) → r ≡ (a && true) → a ≡ r
-      go true f = sym f
-      go false f = sym f
+  zeros-end clear r h e =
+      let f : r ≡ (clear && true) = rw (drop-of-length-le q h) at e in
+      sym (f ∙ and-true clear)
 
 -- ---- one row. What is said of `crosses` and of `crossed` from place i on
 module _ (l : ℕ) (w : List ℕ) where

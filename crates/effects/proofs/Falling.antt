@@ -1,7 +1,7 @@
 -- A tick's timeouts in the tables that store the records: one turn of the loop over them, and all of them at once where none ends.
 -- Rests on Moving and the laws of the tables in stored.
 use mathlib.Core.Path.{_≡_, refl, sym, ap, _∙_}
-use mathlib.Core.Bool.{Bool, true, false, cond, _||_, true≢false}
+use mathlib.Core.Bool.{Bool, true, false, _||_, or-assoc, or-false, true≢false}
 use mathlib.Core.List.{List}
 use mathlib.Core.Logic.{_⊎_, ⊎-elim}
 use Prim.Native.Nat.{ℕ, zero, suc, _+_, _-_, _≤_, _<_}
@@ -96,21 +96,13 @@ unfolding isDue
 due-on due t w r h i =
     let e : 25 - t ≡ suc (25 - suc t) = omega arith in
     let j : due || (eqb (getD w t 0) 1 || isDue (25 - suc t) (suc t) w) ≡ r = rw e at i in
-    rw (add-one t) (go due (eqb (getD w t 0) 1) (isDue (25 - suc t) (suc t) w) j)
-  where
-    go : (a b c : Bool) → a || (b || c) ≡ r → (a || b) || c ≡ r
-    go true b c k = k
-    go false b c k = k
+    rw (add-one t) (or-assoc due (eqb (getD w t 0) 1) (isDue (25 - suc t) (suc t) w) ∙ j)
 
 pub due-end : (due : Bool) (t : ℕ) (w : List ℕ) (r : Bool) → 25 ≤ t → due || isDue (25 - t) t w ≡ r → due ≡ r
 unfolding isDue
 due-end due t w r h i =
     let e : 25 - t ≡ 0 = omega arith in
-    go due (rw e at i)
-  where
-    go : (a : Bool) → a || false ≡ r → a ≡ r
-    go true k = k
-    go false k = k
+    sym (or-false due) ∙ (rw e at i)
 
 pub fall-on : (t : ℕ) (w z : List ℕ) → t < 25 → fallAll (25 - t) t w ≡ z → fallAll (25 - (t + 1)) (t + 1) (set w t (fallen (getD w t 0))) ≡ z
 unfolding fallAll

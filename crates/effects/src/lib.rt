@@ -170,7 +170,7 @@ fn fallen(n: u32) -> u32
     n - 1
 }
 
-// Whether any timeout ends with the next tick.
+// Whether any timeout ends with the next tick. A slice tells the prover its length, an array behind a reference does not.
 fn is_due(words: &[u32; 75]) -> bool
     ensures { λ r. ⌜ (r ≡ isDue 24 1 (now (words .entry))) × (length (now (words .entry)) ≡ 75) ⌝ }
 {

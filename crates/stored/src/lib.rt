@@ -39,6 +39,7 @@ pub fn put_record(bytes: &mut [u8; 250], words: &mut [u32; 75], t: usize, x: Tas
         return;
     }
     let i = t * 10;
+    // as slices, which tell the prover how long they are
     let b: &mut [u8] = bytes;
     let w: &mut [u32] = words;
     b[i] = x.base;
@@ -56,7 +57,7 @@ pub fn put_record(bytes: &mut [u8; 250], words: &mut [u32; 75], t: usize, x: Tas
     w[t + 50] = x.handed;
 }
 
-// What is left of a task's timeout is replaced, and nothing else of its record.
+// What is left of a task's timeout is replaced, and nothing else of its record. The bytes are there to say so: no byte is read.
 pub fn put_remaining(bytes: &[u8; 250], words: &mut [u32; 75], t: usize, left: u32)
     ensures { λ r. ⌜ tasksOf (now (bytes .entry)) (now (words .exit)) ≡ set (tasksOf (now (bytes .entry)) (now (words .entry))) t (withRemaining (getD (tasksOf (now (bytes .entry)) (now (words .entry))) t noTask) left) ⌝ }
 {

@@ -1,9 +1,8 @@
 -- `effects::fall` meets its contract. The invariant: the timeouts that are left fall to what the whole falls to.
 use Prim.Native.Nat.{_≤_, _-_}
-use mathlib.Core.Path.{_≡_, refl, sym, _∙_}
+use mathlib.Core.Path.{_≡_, refl}
 use borrow.Author.Needs.{needs}
 use native.Mathlib.Omega.{arith}
-use lib.ListN.{length, length-set}
 use Rattle.effects.specs.Falling.{fallAll}
 use Rattle.effects.proofs.Falling as law
 use Rattle.effects.proofs.fall.Statement.{statement}

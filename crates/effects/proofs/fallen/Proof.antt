@@ -1,5 +1,4 @@
 -- `effects::fallen` meets its contract: as it computes.
-use mathlib.Core.Path.{refl}
 use borrow.Author.Needs.{needs}
 use borrow.Author.Tests.{eq-eqb, ne-eqb}
 use Rattle.effects.specs.Falling.{fallen}

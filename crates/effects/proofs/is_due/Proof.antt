@@ -1,7 +1,7 @@
 -- `effects::is_due` meets its contract. The invariant: what was seen, or what is left, says it of the whole.
 use Prim.Native.Nat.{_≤_, _-_}
 use mathlib.Core.Bool.{_||_}
-use mathlib.Core.Path.{_≡_, refl, sym, _∙_}
+use mathlib.Core.Path.{_≡_, refl}
 use borrow.Author.Needs.{needs}
 use native.Mathlib.Omega.{arith}
 use Rattle.effects.specs.Falling.{isDue}

@@ -3,7 +3,7 @@ use Prim.Native.Nat.{_≤_, _-_}
 use mathlib.Core.Path.{_≡_, refl}
 use borrow.Author.Needs.{needs}
 use native.Mathlib.Omega.{arith}
-use lib.ListN.{length, length-set, take}
+use lib.ListN.{length, take}
 use Rattle.stored.specs.Stored.{tasksOf}
 use Rattle.stored.proofs.Laws as law
 use Rattle.stored.proofs.spread.Statement.{statement}
