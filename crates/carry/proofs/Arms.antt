@@ -1,11 +1,12 @@
--- Each effect on the whole state, from what its parts say of the tables they were lent: one law for each arm of `carry`.
--- Rests on Local.
-use mathlib.Core.Path.{_≡_, _∙_}
+-- Each effect on the state that the tables stand for, from what its parts say of it: one law for each arm of `carry`, and those of a stop.
+use mathlib.Core.Path.{_≡_, refl, sym, ap, _∙_}
 use mathlib.Core.Bool.{cond}
 use mathlib.Core.List.{List}
 use Prim.Native.Nat.{ℕ, _+_, _*_, _%_, _^_}
+use native.Mathlib.Omega.{arith}
 use lib.Dec.{eqb}
-use lib.ListN.{getD, set}
+use lib.ListN.{getD, set, length}
+use borrow.Author.Tests.{eq-eqb, ne-eqb}
 use Rattle.model.specs.declared.Task.{Task}
 use Rattle.model.specs.declared.State.{State}
 use Rattle.model.specs.declared.News.{News}
@@ -13,61 +14,65 @@ use Rattle.model.specs.declared.News.the-variants.{Deleted}
 use Rattle.model.specs.declared.Effect.{Effect}
 use Rattle.model.specs.declared.Effect.the-variants.{Nothing, Moves, Stops, Counts, Deletes, Slices, Ticks, Flags, Tells}
 use Rattle.model.specs.Flag.{flagRow}
-use Rattle.model.specs.Task.{noTask}
-use Rattle.model.specs.State.{moved, counted, flagged, sliced, withTime}
+use Rattle.model.specs.Task.{noTask, dormant, activated}
+use Rattle.model.specs.State.{task, moved}
 use Rattle.model.specs.Effect.{carried, stopped, deleted, toldFlag, toldAll, charged, chargedLevel, lapsed}
-use Rattle.effects.specs.Parts.{listed, rated, places, stateOf}
+use Rattle.numbers.specs.Numbers.{part, stored, stateOver}
+use Rattle.numbers.proofs.Over.{counted-over, sliced-over, flagged-over, time-over}
+use Rattle.effects.specs.Lent.{places}
 use Rattle.carry.specs.From.{carriedFrom}
-use Rattle.carry.proofs.Local.{moved-local, stopped-local, told-local, lapsed-local, charged-local}
 use Rattle.carry.proofs.Copied.{told-row}
 
-module _ (run : ℕ) (tasks : List Task) (ls ws ss cs ns vs ats bs : List ℕ) (tm : ℕ) (e : Effect) where
+-- ---- a stop
+module _ (s : State) (t : ℕ) (k x : Task) (s₁ : State) (e : k ≡ task s t) (d : x ≡ dormant (k .base)) (m : s₁ ≡ moved t x s) where
+  pub rests : k .activations ≡ 0 → s₁ ≡ stopped t s
+  unfolding stopped
+  rests z = rw (← e, eq-eqb _ _ z, ← d) m
+
+  pub starts : (y : Task) (s₂ : State) → (k .activations ≡ 0 → ⊥) → y ≡ activated x → s₂ ≡ moved t y s₁ → s₂ ≡ stopped t s
+  unfolding stopped
+  starts y s₂ z f n = rw (← e, ne-eqb _ _ z) (rw (f, m, d) at n)
+
+-- ---- the arms
+module _ (run : ℕ) (e : Effect) (ts : List Task) (ls ws ns : List ℕ) where
   abbrev S : State
-  S = stateOf tasks ls ws ss cs ns vs ats bs tm
+  S = stateOver ts ls ws ns
 
   pub nothing : e ≡ Nothing → S ≡ carriedFrom run S e
   unfolding carriedFrom carried
   nothing f = rw f
 
-  pub moves : (t : ℕ) (x : Task) (r : List Task) (ls′ ws′ : List ℕ) → e ≡ Moves t x → listed r ls′ ws′ ≡ moved t x (listed tasks ls ws) → stateOf r ls′ ws′ ss cs ns vs ats bs tm ≡ carriedFrom run S e
+  pub moves : (t : ℕ) (x : Task) (s₁ : State) → e ≡ Moves t x → s₁ ≡ moved t x S → s₁ ≡ carriedFrom run S e
   unfolding carriedFrom carried
-  moves t x r ls′ ws′ f m = rw (f, moved-local t x S, ← m)
+  moves t x s₁ f m = rw f m
 
-  pub stops : (t : ℕ) (r : List Task) (ls′ ws′ : List ℕ) → e ≡ Stops t → listed r ls′ ws′ ≡ stopped t (listed tasks ls ws) → stateOf r ls′ ws′ ss cs ns vs ats bs tm ≡ carriedFrom run S e
+  pub stops : (t : ℕ) (s₁ : State) → e ≡ Stops t → s₁ ≡ stopped t S → s₁ ≡ carriedFrom run S e
   unfolding carriedFrom carried
-  stops t r ls′ ws′ f m = rw (f, stopped-local t S, ← m)
+  stops t s₁ f m = rw f m
 
-  pub counts : (m n v : ℕ) (ns′ vs′ : List ℕ) → e ≡ Counts m n v → ns′ ≡ set ns m n → vs′ ≡ set vs m v → stateOf tasks ls ws ss cs ns′ vs′ ats bs tm ≡ carriedFrom run S e
-  unfolding carriedFrom carried counted
-  counts m n v ns′ vs′ f a b = rw (f, a, b)
+  pub counts : (m n v : ℕ) (ns₁ ns₂ : List ℕ) → e ≡ Counts m n v → ns₁ ≡ stored 62 13 m n ns → ns₂ ≡ stored 75 13 m v ns₁ → stateOver ts ls ws ns₂ ≡ carriedFrom run S e
+  unfolding carriedFrom carried
+  counts m n v ns₁ ns₂ f a b = rw (f, b, a) (counted-over ts ls ws ns m n v)
 
-  pub deletes : (m : ℕ) (q : List ℕ) (r : List Task) (ls′ ws′ ns′ vs′ : List ℕ) → e ≡ Deletes m → q ≡ places 24 (m * 24) ws → listed r ls′ ws′ ≡ toldAll Deleted q (listed tasks ls ws)
-      → ns′ ≡ set ns m 0 → vs′ ≡ set vs m 0 → stateOf r ls′ ws′ ss cs ns′ vs′ ats bs tm ≡ carriedFrom run S e
-  unfolding carriedFrom carried deleted counted
-  deletes m q r ls′ ws′ ns′ vs′ f g h a b =
-      let w : listed r ls′ ws′ ≡ toldAll Deleted (places 24 (m * 24) ws) (listed tasks ls ws) = rw g at h in
-      rw (f, a, b, ← told-row Deleted m ws S, told-local Deleted (places 24 (m * 24) ws) S, ← w)
+  pub slices : (l v : ℕ) (ns₁ ns₂ : List ℕ) → e ≡ Slices l v → ns₁ ≡ stored 0 31 l v ns → ns₂ ≡ stored 31 31 l 0 ns₁ → stateOver ts ls ws ns₂ ≡ carriedFrom run S e
+  unfolding carriedFrom carried
+  slices l v ns₁ ns₂ f a b = rw (f, b, a) (sliced-over ts ls ws ns l v)
 
-  pub slices : (l v : ℕ) (ss′ cs′ : List ℕ) → e ≡ Slices l v → ss′ ≡ set ss l v → cs′ ≡ set cs l 0 → stateOf tasks ls ws ss′ cs′ ns vs ats bs tm ≡ carriedFrom run S e
-  unfolding carriedFrom carried sliced
-  slices l v ss′ cs′ f a b = rw (f, a, b)
+  pub flags : (f a b : ℕ) (ns₁ ns₂ : List ℕ) → e ≡ Flags f a b → ns₁ ≡ stored 88 9 f a ns → ns₂ ≡ stored 97 9 f b ns₁ → stateOver ts ls ws ns₂ ≡ carriedFrom run S e
+  unfolding carriedFrom carried
+  flags f a b ns₁ ns₂ g h i = rw (g, i, h) (flagged-over ts ls ws ns f a b)
 
-  pub ticks : (k : Task) (tm′ : ℕ) (r : List Task) (ls′ cs′ ls″ ws′ : List ℕ) → e ≡ Ticks → k ≡ getD tasks run noTask → tm′ ≡ (tm + 1) % 2 ^ 32
-      → rated ls′ ss cs′ ≡ cond (eqb run 0) (rated ls ss cs) (chargedLevel (k .priority) (rated ls ss cs))
-      → listed r ls″ ws′ ≡ lapsed 24 1 (listed tasks ls′ ws)
-      → stateOf r ls″ ws′ ss cs′ ns vs ats bs tm′ ≡ carriedFrom run S e
-  unfolding carriedFrom
-  ticks k tm′ r ls′ cs′ ls″ ws′ f b d g h =
-      let c : charged run (withTime tm′ S) ≡ stateOf tasks ls′ ws ss cs′ ns vs ats bs tm′ = charged-local run (withTime tm′ S) ∙ rw (← b, ← g) in
-      rw (f, ← d, c, lapsed-local 24 1 (stateOf tasks ls′ ws ss cs′ ns vs ats bs tm′), ← h)
+  pub ticks : (k : Task) (ns₁ : List ℕ) (s₂ s₃ : State) → e ≡ Ticks → k ≡ getD ts run noTask → (ns₁ ≡ stored 106 1 0 ((getD (part 106 1 ns) 0 0 + 1) % 2 ^ 32) ns) × (length ns ≡ 107)
+      → s₂ ≡ cond (eqb run 0) (stateOver ts ls ws ns₁) (chargedLevel (k .priority) (stateOver ts ls ws ns₁)) → s₃ ≡ lapsed 24 1 s₂ → s₃ ≡ carriedFrom run S e
+  unfolding carriedFrom charged
+  ticks k ns₁ s₂ s₃ f d a g h = rw (f, h, g, d, a .0, time-over ts ls ws ns ((getD (part 106 1 ns) 0 0 + 1) % 2 ^ 32) (omega (arith, a .1)))
 
-  pub flags : (f a b : ℕ) (ats′ bs′ : List ℕ) → e ≡ Flags f a b → ats′ ≡ set ats f a → bs′ ≡ set bs f b → stateOf tasks ls ws ss cs ns vs ats′ bs′ tm ≡ carriedFrom run S e
-  unfolding carriedFrom carried flagged
-  flags f a b ats′ bs′ g h i = rw (g, h, i)
+  -- after the news: the tables that it left
+  module _ (q : List ℕ) (w : News) (ts₁ : List Task) (ls₁ ws₁ ns₀ ns₁ ns₂ : List ℕ) (h : stateOver ts₁ ls₁ ws₁ ns₀ ≡ toldAll w q S) where
+    pub deletes : (m : ℕ) → e ≡ Deletes m → w ≡ Deleted → q ≡ places 24 (m * 24) ws → ns₁ ≡ stored 62 13 m 0 ns₀ → ns₂ ≡ stored 75 13 m 0 ns₁ → stateOver ts₁ ls₁ ws₁ ns₂ ≡ carriedFrom run S e
+    unfolding carriedFrom carried deleted
+    deletes m f v g a b = rw (f, b, a, counted-over ts₁ ls₁ ws₁ ns₀ m 0 0, h, v, g, told-row Deleted m ws S)
 
-  pub tells : (f : ℕ) (w : News) (a b l : ℕ) (q : List ℕ) (r : List Task) (ls′ ws′ ats′ bs′ : List ℕ) → e ≡ Tells f w a b → l ≡ flagRow f → q ≡ places 24 (l * 24) ws
-      → listed r ls′ ws′ ≡ toldAll w q (listed tasks ls ws) → ats′ ≡ set ats f a → bs′ ≡ set bs f b → stateOf r ls′ ws′ ss cs ns vs ats′ bs′ tm ≡ carriedFrom run S e
-  unfolding carriedFrom carried toldFlag flagged
-  tells f w a b l q r ls′ ws′ ats′ bs′ g o p h i j =
-      let k : listed r ls′ ws′ ≡ toldAll w (places 24 (flagRow f * 24) ws) (listed tasks ls ws) = rw (p, o) at h in
-      rw (g, i, j, ← told-row w (flagRow f) ws S, told-local w (places 24 (flagRow f * 24) ws) S, ← k)
+    pub tells : (f a b l : ℕ) → e ≡ Tells f w a b → l ≡ flagRow f → q ≡ places 24 (l * 24) ws → ns₁ ≡ stored 88 9 f a ns₀ → ns₂ ≡ stored 97 9 f b ns₁ → stateOver ts₁ ls₁ ws₁ ns₂ ≡ carriedFrom run S e
+    unfolding carriedFrom carried toldFlag
+    tells f a b l g o p i j = rw (g, j, i, flagged-over ts₁ ls₁ ws₁ ns₀ f a b, h, p, o, told-row w (flagRow f) ws S)

@@ -17,7 +17,7 @@ use Rattle.model.specs.Row.{row}
 use Rattle.model.specs.Task.{told}
 use Rattle.model.specs.State.{task, moved}
 use Rattle.model.specs.Effect.{toldAll}
-use Rattle.effects.specs.Parts.{places}
+use Rattle.effects.specs.Lent.{places}
 
 pub length-places : (n a : ℕ) (ls : List ℕ) → length (places n a ls) ≡ n
 unfolding places

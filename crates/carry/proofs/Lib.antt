@@ -1,4 +1,2 @@
-pub mod Local
-pub mod Steps
 pub mod Copied
 pub mod Arms

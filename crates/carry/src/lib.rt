@@ -1,54 +1,58 @@
-// An effect carried out on all the tables, each lent by itself and changed where it lies.
+// An effect carried out on the five tables, changed where they lie.
 // Every arm is a definition of model/specs/Effect, for every value; who runs is told, so that nobody looks twice.
 ghost use mathlib.Core.Path.{_≡_};
 ghost use mathlib.Core.Bool.{cond};
-ghost use Prim.Native.Nat.{_*_};
+ghost use Prim.Native.Nat.{_+_, _*_, _%_, _^_};
 ghost use lib.Dec.{eqb};
-ghost use Rattle.model.specs.State.{moved};
+ghost use lib.ListN.{getD, length};
 ghost use Rattle.model.specs.Effect.{stopped, chargedLevel};
-ghost use Rattle.stored.specs.Stored.{tasksOf};
-ghost use Rattle.effects.specs.Parts.{listed, rated, places, stateOf};
+ghost use Rattle.numbers.specs.Numbers.{part, stored};
+ghost use Rattle.effects.specs.Lent.{before, after, places};
 ghost use Rattle.carry.specs.From.{carriedFrom};
+use effects::move_task;
 use model::Effect;
 use model::News;
-use model::Task;
-use stored::put_record;
+use numbers::number_at;
+use numbers::put_number;
 use stored::record_at;
-
-// ---- one task moves
-pub fn move_task(
-    bytes: &mut [u8; 250],
-    words: &mut [u32; 75],
-    levels: &mut [u8],
-    waits: &mut [u8],
-    t: u8,
-    x: Task,
-)
-    ensures { λ r. ⌜ listed (tasksOf (now (bytes .exit)) (now (words .exit))) (now (levels .exit)) (now (waits .exit)) ≡ moved t x (listed (tasksOf (now (bytes .entry)) (now (words .entry))) (now (levels .entry)) (now (waits .entry))) ⌝ }
-{
-    let k = record_at(bytes, words, t as usize);
-    effects::requeue(levels, waits, t, k, x);
-    put_record(bytes, words, t as usize, x);
-}
 
 // ---- one task becomes dormant, and runnable again at once where an activation is counted
 pub fn stop_task(
     bytes: &mut [u8; 250],
     words: &mut [u32; 75],
-    levels: &mut [u8],
-    waits: &mut [u8],
+    levels: &mut [u8; 744],
+    waits: &mut [u8; 504],
+    numbers: &[u32; 107],
     t: u8,
 )
-    ensures { λ r. ⌜ listed (tasksOf (now (bytes .exit)) (now (words .exit))) (now (levels .exit)) (now (waits .exit)) ≡ stopped t (listed (tasksOf (now (bytes .entry)) (now (words .entry))) (now (levels .entry)) (now (waits .entry))) ⌝ }
+    ensures { λ r. ⌜ after bytes words levels waits numbers ≡ stopped t (before bytes words levels waits numbers) ⌝ }
 {
     let k = record_at(bytes, words, t as usize);
     let x = records::dormant(k.base);
-    move_task(bytes, words, levels, waits, t, x);
+    move_task(bytes, words, levels, waits, numbers, t, x);
     let activations = k.activations;
     if activations == 0 {
         return;
     }
-    move_task(bytes, words, levels, waits, t, records::activated(x));
+    move_task(
+        bytes,
+        words,
+        levels,
+        waits,
+        numbers,
+        t,
+        records::activated(x),
+    );
+}
+
+// A place past the end reads as 0.
+fn byte_at(ns: &[u8], i: usize) -> u8
+    ensures { λ r. ⌜ r ≡ getD (now (ns .entry)) i 0 ⌝ }
+{
+    if i < ns.len() {
+        return ns[i];
+    }
+    0
 }
 
 // ---- a queue as it stands, with zeros for what is past the table
@@ -59,86 +63,99 @@ pub fn copy_row(ls: &[u8], l: u8) -> [u8; 24]
     let mut r = [0u8; 24];
     let mut i: usize = 0;
     while i < 24 {
-        r[i] = effects::byte_at(ls, at + i);
+        r[i] = byte_at(ls, at + i);
         i = i + 1;
     }
     r
 }
 
 // ---- the running task's level is charged; 0 has none
-pub fn charge_running(levels: &mut [u8], slices: &[u16], charges: &mut [u16], run: u8, level: u8)
-    ensures { λ r. ⌜ rated (now (levels .exit)) (now (slices .entry)) (now (charges .exit)) ≡ cond (eqb run 0) (rated (now (levels .entry)) (now (slices .entry)) (now (charges .entry))) (chargedLevel level (rated (now (levels .entry)) (now (slices .entry)) (now (charges .entry)))) ⌝ }
+pub fn charge_running(
+    bytes: &[u8; 250],
+    words: &[u32; 75],
+    levels: &mut [u8; 744],
+    waits: &[u8; 504],
+    numbers: &mut [u32; 107],
+    run: u8,
+    level: u8,
+)
+    ensures { λ r. ⌜ after bytes words levels waits numbers ≡ cond (eqb run 0) (before bytes words levels waits numbers) (chargedLevel level (before bytes words levels waits numbers)) ⌝ }
 {
     if run == 0 {
         return;
     }
-    effects::charge(levels, slices, charges, level as usize);
+    effects::charge(bytes, words, levels, waits, numbers, level as usize);
+}
+
+// ---- the time goes up by one. As a slice the table tells the prover its length.
+fn advance(numbers: &mut [u32; 107])
+    ensures { λ r. ⌜ (now (numbers .exit) ≡ stored 106 1 0 ((getD (part 106 1 (now (numbers .entry))) 0 0 + 1) % 2 ^ 32) (now (numbers .entry))) × (length (now (numbers .entry)) ≡ 107) ⌝ }
+{
+    let ns: &mut [u32] = numbers;
+    let time = number_at(ns, 106, 1, 0);
+    put_number(ns, 106, 1, 0, std::num::wrapping_add_u32(time, 1));
 }
 
 // ---- any effect, where `run` runs
 pub fn carry(
     bytes: &mut [u8; 250],
     words: &mut [u32; 75],
-    levels: &mut [u8],
-    waits: &mut [u8],
-    slices: &mut [u16],
-    charges: &mut [u16],
-    counts: &mut [u16],
-    maxima: &mut [u16],
-    attributes: &mut [u8],
-    bits: &mut [u32],
-    time: &mut u32,
+    levels: &mut [u8; 744],
+    waits: &mut [u8; 504],
+    numbers: &mut [u32; 107],
     run: u8,
     e: Effect,
 )
-    ensures { λ r. ⌜ stateOf (tasksOf (now (bytes .exit)) (now (words .exit))) (now (levels .exit)) (now (waits .exit)) (now (slices .exit)) (now (charges .exit)) (now (counts .exit)) (now (maxima .exit)) (now (attributes .exit)) (now (bits .exit)) (now (time .exit)) ≡ carriedFrom run (stateOf (tasksOf (now (bytes .entry)) (now (words .entry))) (now (levels .entry)) (now (waits .entry)) (now (slices .entry)) (now (charges .entry)) (now (counts .entry)) (now (maxima .entry)) (now (attributes .entry)) (now (bits .entry)) (now (time .entry))) e ⌝ }
+    ensures { λ r. ⌜ after bytes words levels waits numbers ≡ carriedFrom run (before bytes words levels waits numbers) e ⌝ }
 {
     match e {
         Effect::Nothing => {}
-        Effect::Moves { task, record } => move_task(bytes, words, levels, waits, task, record),
-        Effect::Stops { task } => stop_task(bytes, words, levels, waits, task),
+        Effect::Moves { task, record } => {
+            move_task(bytes, words, levels, waits, numbers, task, record)
+        }
+        Effect::Stops { task } => stop_task(bytes, words, levels, waits, numbers, task),
         Effect::Counts {
             semaphore,
             count,
             maximum,
         } => {
-            effects::put_number(counts, semaphore as usize, count);
-            effects::put_number(maxima, semaphore as usize, maximum);
+            put_number(numbers, 62, 13, semaphore as usize, count);
+            put_number(numbers, 75, 13, semaphore as usize, maximum);
         }
         Effect::Deletes { semaphore } => {
             let q = copy_row(waits, semaphore);
-            effects::tell_all(bytes, words, levels, waits, q, News::Deleted);
-            effects::put_number(counts, semaphore as usize, 0);
-            effects::put_number(maxima, semaphore as usize, 0);
+            effects::tell_all(bytes, words, levels, waits, numbers, q, News::Deleted);
+            put_number(numbers, 62, 13, semaphore as usize, 0);
+            put_number(numbers, 75, 13, semaphore as usize, 0);
         }
         Effect::Slices { level, slice } => {
-            effects::put_number(slices, level as usize, slice);
-            effects::put_number(charges, level as usize, 0);
+            put_number(numbers, 0, 31, level as usize, slice);
+            put_number(numbers, 31, 31, level as usize, 0);
         }
         Effect::Ticks => {
             let k = record_at(bytes, words, run as usize);
-            *time = std::num::wrapping_add_u32(*time, 1);
-            charge_running(levels, slices, charges, run, k.priority);
-            effects::lapse(bytes, words, levels, waits);
+            advance(numbers);
+            charge_running(bytes, words, levels, waits, numbers, run, k.priority);
+            effects::lapse(bytes, words, levels, waits, numbers);
         }
         Effect::Flags {
             flag,
-            attributes: a,
-            bits: b,
+            attributes,
+            bits,
         } => {
-            effects::put_byte(attributes, flag as usize, a);
-            effects::put_bits(bits, flag as usize, b);
+            put_number(numbers, 88, 9, flag as usize, attributes);
+            put_number(numbers, 97, 9, flag as usize, bits);
         }
         Effect::Tells {
             flag,
             news,
-            attributes: a,
-            bits: b,
+            attributes,
+            bits,
         } => {
             let q = copy_row(waits, records::flag_row(flag));
-            effects::tell_all(bytes, words, levels, waits, q, news);
-            effects::put_byte(attributes, flag as usize, a);
-            effects::put_bits(bits, flag as usize, b);
+            effects::tell_all(bytes, words, levels, waits, numbers, q, news);
+            put_number(numbers, 88, 9, flag as usize, attributes);
+            put_number(numbers, 97, 9, flag as usize, bits);
         }
     }
 }

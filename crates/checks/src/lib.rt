@@ -141,7 +141,7 @@ pub fn moves(task: u8, k: Task) -> Plan
     })
 }
 
-pub fn counts(semaphore: u8, count: u16, maximum: u16) -> Plan
+pub fn counts(semaphore: u8, count: u32, maximum: u32) -> Plan
     ensures { λ r. ⌜ r ≡ does (Counts semaphore count maximum) ⌝ }
 {
     does(Effect::Counts {
@@ -151,7 +151,7 @@ pub fn counts(semaphore: u8, count: u16, maximum: u16) -> Plan
     })
 }
 
-pub fn flags(flag: u8, attributes: u8, bits: u32) -> Plan
+pub fn flags(flag: u8, attributes: u32, bits: u32) -> Plan
     ensures { λ r. ⌜ r ≡ does (Flags flag attributes bits) ⌝ }
 {
     does(Effect::Flags {

@@ -20,9 +20,9 @@ use Rattle.model.specs.Effect.{lapsed}
 use Rattle.laws.proofs.Number.{same?}
 use Rattle.stored.specs.Stored.{tasksOf}
 use Rattle.stored.proofs.Laws.{left-at, fell}
-use Rattle.effects.specs.Parts.{listed}
+use Rattle.effects.specs.Lent.{stateIn, movedFrom}
 use Rattle.effects.specs.Falling.{fallen, isDue, fallAll}
-use Rattle.effects.proofs.Moving.{untimed, unending, falling, ending, moved-kept, turn}
+use Rattle.effects.proofs.Moving.{untimed, unending, falling, ending, moved-kept, moved-from, turn}
 
 -- ---- one record
 -- what a tick makes of a record whose timeout it does not end
@@ -37,34 +37,32 @@ falls-one x o = ⊎-elim
     (same? (x .remaining) 0)
 
 -- in the tables: what is left of the timeout changes
-falls-to : (b w w′ ls ws : List ℕ) (t v : ℕ) → t < 25 → (getD w t 0 ≡ 1 → ⊥) → v ≡ fallen (getD w t 0) → tasksOf b w′ ≡ set (tasksOf b w) t (withRemaining (getD (tasksOf b w) t noTask) v)
-    → moved t (aged (getD (tasksOf b w) t noTask)) (listed (tasksOf b w) ls ws) ≡ listed (tasksOf b w′) ls ws
+falls-to : (b w w′ ls ws ns : List ℕ) (t v : ℕ) → t < 25 → (getD w t 0 ≡ 1 → ⊥) → v ≡ fallen (getD w t 0) → tasksOf b w′ ≡ set (tasksOf b w) t (withRemaining (getD (tasksOf b w) t noTask) v)
+    → moved t (aged (getD (tasksOf b w) t noTask)) (stateIn b w ls ws ns) ≡ stateIn b w′ ls ws ns
 unfolding levelOf rowOf
-falls-to b w w′ ls ws t v h o d f =
+falls-to b w w′ ls ws ns t v h o d f =
     let x = getD (tasksOf b w) t noTask in
     let e : getD w t 0 ≡ x .remaining = left-at b w t h in
     let p : (x .remaining ≡ 1 → ⊥) = λ z. o (e ∙ z) in
-    rw (falls-one x p, f, d, e) (moved-kept (tasksOf b w) ls ws t (withRemaining x (fallen (x .remaining))) refl refl)
+    rw (falls-one x p, f, d, e) (moved-kept (tasksOf b w) ls ws ns t (withRemaining x (fallen (x .remaining))) refl refl)
 
-falls-at : (b w ls ws : List ℕ) (t : ℕ) → t < 25 → length w ≡ 75 → (getD w t 0 ≡ 1 → ⊥)
-    → moved t (aged (getD (tasksOf b w) t noTask)) (listed (tasksOf b w) ls ws) ≡ listed (tasksOf b (set w t (fallen (getD w t 0)))) ls ws
-falls-at b w ls ws t h m o = falls-to b w (set w t (fallen (getD w t 0))) ls ws t (fallen (getD w t 0)) h o refl (fell b w t (fallen (getD w t 0)) h m)
+falls-at : (b w ls ws ns : List ℕ) (t : ℕ) → t < 25 → length w ≡ 75 → (getD w t 0 ≡ 1 → ⊥)
+    → moved t (aged (getD (tasksOf b w) t noTask)) (stateIn b w ls ws ns) ≡ stateIn b (set w t (fallen (getD w t 0))) ls ws ns
+falls-at b w ls ws ns t h m o = falls-to b w (set w t (fallen (getD w t 0))) ls ws ns t (fallen (getD w t 0)) h o refl (fell b w t (fallen (getD w t 0)) h m)
 
 -- ---- one turn of the loop
-module _ (b w ls ws : List ℕ) (t : ℕ) (s : State) (h : t < 25) (i : lapsed (25 - t) t (listed (tasksOf b w) ls ws) ≡ s) where
+module _ (b w ls ws ns : List ℕ) (t : ℕ) (s : State) (h : t < 25) (i : lapsed (25 - t) t (stateIn b w ls ws ns) ≡ s) where
   pub falls : (w′ : List ℕ) (v : ℕ) → (getD w t 0 ≡ 1 → ⊥) → v ≡ fallen (getD w t 0) → tasksOf b w′ ≡ set (tasksOf b w) t (withRemaining (getD (tasksOf b w) t noTask) v)
-      → lapsed (25 - (t + 1)) (t + 1) (listed (tasksOf b w′) ls ws) ≡ s
-  falls w′ v o e f = turn (tasksOf b w) ls ws t s h i (listed (tasksOf b w′) ls ws) (falls-to b w w′ ls ws t v h o e f)
+      → lapsed (25 - (t + 1)) (t + 1) (stateIn b w′ ls ws ns) ≡ s
+  falls w′ v o e f = turn (stateIn b w ls ws ns) t s h i (stateIn b w′ ls ws ns) (falls-to b w w′ ls ws ns t v h o e f)
 
-  pub ends : (k x : Task) (v : ℕ) (b′ w′ ls′ ws′ : List ℕ) → getD w t 0 ≡ 1 → k ≡ getD (tasksOf b w) t noTask → v ≡ ranOut k → x ≡ ended k v 0
-      → tasksOf b′ w′ ≡ set (tasksOf b w) t x → ls′ ≡ relisted ls (levelOf k) (levelOf x) t → ws′ ≡ relisted ws (rowOf k) (rowOf x) t
-      → lapsed (25 - (t + 1)) (t + 1) (listed (tasksOf b′ w′) ls′ ws′) ≡ s
-  unfolding moved
-  ends k x v b′ w′ ls′ ws′ o d f g p a c =
+  pub ends : (k x : Task) (v : ℕ) (s′ : State) → getD w t 0 ≡ 1 → k ≡ getD (tasksOf b w) t noTask → v ≡ ranOut k → x ≡ ended k v 0
+      → s′ ≡ movedFrom t k x (stateIn b w ls ws ns) → lapsed (25 - (t + 1)) (t + 1) s′ ≡ s
+  ends k x v s′ o d f g m =
       let r : getD (tasksOf b w) t noTask .remaining ≡ 1 = sym (left-at b w t h) ∙ o in
       let z : (getD (tasksOf b w) t noTask .remaining ≡ 0 → ⊥) = λ e. omega arith in
       let n : (getD (tasksOf b w) t noTask .remaining ≡ endless → ⊥) = λ e. omega arith in
-      turn (tasksOf b w) ls ws t s h i (listed (tasksOf b′ w′) ls′ ws′) (rw (ending (getD (tasksOf b w) t noTask) z n r, p, a, c, ← d, ← f, ← g))
+      turn (stateIn b w ls ws ns) t s h i s′ (rw (ending (getD (tasksOf b w) t noTask) z n r, ← d, ← f, ← g) (sym (m ∙ moved-from (stateIn b w ls ws ns) t k x d)))
 
 -- ---- all timeouts at once
 -- a store below t changes no timeout from t on
@@ -81,14 +79,14 @@ not-due n t w e = ⊎-elim
     (same? (getD w t 0) 1)
 
 -- where none ends, the words alone change
-pub all-fall : (n t : ℕ) (b w ls ws : List ℕ) → n + t ≤ 25 → length w ≡ 75 → isDue n t w ≡ false → listed (tasksOf b (fallAll n t w)) ls ws ≡ lapsed n t (listed (tasksOf b w) ls ws)
+pub all-fall : (n t : ℕ) (b w ls ws ns : List ℕ) → n + t ≤ 25 → length w ≡ 75 → isDue n t w ≡ false → stateIn b (fallAll n t w) ls ws ns ≡ lapsed n t (stateIn b w ls ws ns)
 unfolding fallAll lapsed
-all-fall zero t b w ls ws h m e = refl
-all-fall (suc n) t b w ls ws h m e =
+all-fall zero t b w ls ws ns h m e = refl
+all-fall (suc n) t b w ls ws ns h m e =
     let d = not-due n t w e in
     let w′ = set w t (fallen (getD w t 0)) in
-    all-fall n (suc t) b w′ ls ws (omega arith) (length-set w t (fallen (getD w t 0)) ∙ m) (due-set n (suc t) t (fallen (getD w t 0)) w (omega arith) ∙ d .1)
-    ∙ ap (lapsed n (suc t)) (sym (falls-at b w ls ws t (omega arith) m (d .0)))
+    all-fall n (suc t) b w′ ls ws ns (omega arith) (length-set w t (fallen (getD w t 0)) ∙ m) (due-set n (suc t) t (fallen (getD w t 0)) w (omega arith) ∙ d .1)
+    ∙ ap (lapsed n (suc t)) (sym (falls-at b w ls ws ns t (omega arith) m (d .0)))
 
 -- ---- the two loops over the words
 pub due-on : (due : Bool) (t : ℕ) (w : List ℕ) (r : Bool) → t < 25 → due || isDue (25 - t) t w ≡ r → (due || eqb (getD w t 0) 1) || isDue (25 - (t + 1)) (t + 1) w ≡ r

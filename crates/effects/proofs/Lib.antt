@@ -1,3 +1,3 @@
-pub mod Charging
 pub mod Moving
+pub mod Charging
 pub mod Falling

@@ -1,84 +1,31 @@
-// What an effect does to the tables it changes, each lent by itself: a move in the queues, a charged tick, the timeouts of a
-// tick, the news to those in a queue. It rests on the rows, the records and the tables that store them.
+// What an effect does to the five tables, changed where they lie: a move, a charged tick, the timeouts of a tick, the news to
+// those in a queue. Every contract says which state the tables then stand for.
 ghost use mathlib.Core.Path.{_≡_};
-ghost use lib.ListN.{getD, length, set};
-ghost use Rattle.model.specs.Row.{relisted};
-ghost use Rattle.model.specs.Task.{levelOf, rowOf, ranOut};
+ghost use lib.ListN.{getD, length};
+ghost use Rattle.model.specs.Task.{ranOut};
 ghost use Rattle.model.specs.Flag.{flagRow};
+ghost use Rattle.model.specs.State.{moved};
 ghost use Rattle.model.specs.Effect.{chargedLevel, lapsed, toldAll};
-ghost use Rattle.stored.specs.Stored.{tasksOf};
 ghost use Rattle.effects.specs.Falling.{fallen, isDue, fallAll};
-ghost use Rattle.effects.specs.Parts.{listed, rated, semaphoreIn, flagIn};
+ghost use Rattle.effects.specs.Lent.{before, after, movedFrom, semaphoreIn, flagIn};
 use model::Flag;
 use model::News;
 use model::Semaphore;
 use model::Task;
+use numbers::number_at;
+use numbers::put_number;
 use stored::put_record;
 use stored::put_remaining;
 use stored::record_at;
 
-// ---- tables of numbers: a place past the end reads as 0, and a store there changes nothing
-pub fn number_at(ns: &[u16], i: usize) -> u16
-    ensures { λ r. ⌜ r ≡ getD (now (ns .entry)) i 0 ⌝ }
-{
-    if i < ns.len() {
-        return ns[i];
-    }
-    0
-}
-
-pub fn put_number(ns: &mut [u16], i: usize, v: u16)
-    ensures { λ r. ⌜ now (ns .exit) ≡ set (now (ns .entry)) i v ⌝ }
-{
-    if ns.len() <= i {
-        return;
-    }
-    ns[i] = v;
-}
-
-pub fn byte_at(ns: &[u8], i: usize) -> u8
-    ensures { λ r. ⌜ r ≡ getD (now (ns .entry)) i 0 ⌝ }
-{
-    if i < ns.len() {
-        return ns[i];
-    }
-    0
-}
-
-pub fn put_byte(ns: &mut [u8], i: usize, v: u8)
-    ensures { λ r. ⌜ now (ns .exit) ≡ set (now (ns .entry)) i v ⌝ }
-{
-    if ns.len() <= i {
-        return;
-    }
-    ns[i] = v;
-}
-
-pub fn bits_at(ns: &[u32], i: usize) -> u32
-    ensures { λ r. ⌜ r ≡ getD (now (ns .entry)) i 0 ⌝ }
-{
-    if i < ns.len() {
-        return ns[i];
-    }
-    0
-}
-
-pub fn put_bits(ns: &mut [u32], i: usize, v: u32)
-    ensures { λ r. ⌜ now (ns .exit) ≡ set (now (ns .entry)) i v ⌝ }
-{
-    if ns.len() <= i {
-        return;
-    }
-    ns[i] = v;
-}
-
+// ---- what a call looks at
 // The semaphore that a call names.
-pub fn semaphore_at(counts: &[u16], maxima: &[u16], waits: &[u8], m: usize) -> Semaphore
-    ensures { λ r. ⌜ r ≡ semaphoreIn (now (counts .entry)) (now (maxima .entry)) (now (waits .entry)) m ⌝ }
+pub fn semaphore_at(numbers: &[u32; 107], waits: &[u8; 504], m: usize) -> Semaphore
+    ensures { λ r. ⌜ r ≡ semaphoreIn (now (numbers .entry)) (now (waits .entry)) m ⌝ }
 {
     Semaphore {
-        count: number_at(counts, m),
-        maximum: number_at(maxima, m),
+        count: number_at(numbers, 62, 13, m),
+        maximum: number_at(numbers, 75, 13, m),
         first: rows::first_of(waits, m),
     }
 }
@@ -94,19 +41,28 @@ fn flag_row(f: usize) -> usize
 }
 
 // The flag that a call names.
-pub fn flag_at(attributes: &[u8], bits: &[u32], waits: &[u8], f: usize) -> Flag
-    ensures { λ r. ⌜ r ≡ flagIn (now (attributes .entry)) (now (bits .entry)) (now (waits .entry)) f ⌝ }
+pub fn flag_at(numbers: &[u32; 107], waits: &[u8; 504], f: usize) -> Flag
+    ensures { λ r. ⌜ r ≡ flagIn (now (numbers .entry)) (now (waits .entry)) f ⌝ }
 {
     Flag {
-        attributes: byte_at(attributes, f),
-        bits: bits_at(bits, f),
+        attributes: number_at(numbers, 88, 9, f),
+        bits: number_at(numbers, 97, 9, f),
         first: rows::first_of(waits, flag_row(f)),
     }
 }
 
-// ---- a task's place in the queues, as its record k becomes x
-pub fn requeue(levels: &mut [u8], waits: &mut [u8], t: u8, k: Task, x: Task)
-    ensures { λ r. ⌜ (now (levels .exit) ≡ relisted (now (levels .entry)) (levelOf k) (levelOf x) t) × (now (waits .exit) ≡ relisted (now (waits .entry)) (rowOf k) (rowOf x) t) ⌝ }
+// ---- one task moves: its record k becomes x, and the queues follow the two. The one mover; whoever has read k hands it on.
+pub fn move_from(
+    bytes: &mut [u8; 250],
+    words: &mut [u32; 75],
+    levels: &mut [u8; 744],
+    waits: &mut [u8; 504],
+    numbers: &[u32; 107],
+    t: u8,
+    k: Task,
+    x: Task,
+)
+    ensures { λ r. ⌜ after bytes words levels waits numbers ≡ movedFrom t k x (before bytes words levels waits numbers) ⌝ }
 {
     rows::relist(
         levels,
@@ -120,28 +76,51 @@ pub fn requeue(levels: &mut [u8], waits: &mut [u8], t: u8, k: Task, x: Task)
         records::row_of(x) as usize,
         t,
     );
+    put_record(bytes, words, t as usize, x);
+}
+
+pub fn move_task(
+    bytes: &mut [u8; 250],
+    words: &mut [u32; 75],
+    levels: &mut [u8; 744],
+    waits: &mut [u8; 504],
+    numbers: &[u32; 107],
+    t: u8,
+    x: Task,
+)
+    ensures { λ r. ⌜ after bytes words levels waits numbers ≡ moved t x (before bytes words levels waits numbers) ⌝ }
+{
+    let k = record_at(bytes, words, t as usize);
+    move_from(bytes, words, levels, waits, numbers, t, k, x);
 }
 
 // ---- one charged tick of a level
-fn wide(x: u16) -> u32
+fn wide(x: u32) -> u64
     ensures { λ r. ⌜ r ≡ x ⌝ }
 {
-    x as u32
+    x as u64
 }
 
-pub fn charge(levels: &mut [u8], slices: &[u16], charges: &mut [u16], l: usize)
-    ensures { λ r. ⌜ rated (now (levels .exit)) (now (slices .entry)) (now (charges .exit)) ≡ chargedLevel l (rated (now (levels .entry)) (now (slices .entry)) (now (charges .entry))) ⌝ }
+pub fn charge(
+    bytes: &[u8; 250],
+    words: &[u32; 75],
+    levels: &mut [u8; 744],
+    waits: &[u8; 504],
+    numbers: &mut [u32; 107],
+    l: usize,
+)
+    ensures { λ r. ⌜ after bytes words levels waits numbers ≡ chargedLevel l (before bytes words levels waits numbers) ⌝ }
 {
-    let slice = number_at(slices, l);
-    let next = wide(number_at(charges, l)) + 1;
+    let slice = number_at(numbers, 0, 31, l);
+    let next = wide(number_at(numbers, 31, 31, l)) + 1;
     if slice == 0 {
         return;
     }
     if next < wide(slice) {
-        put_number(charges, l, next as u16);
+        put_number(numbers, 31, 31, l, next as u32);
         return;
     }
-    put_number(charges, l, 0);
+    put_number(numbers, 31, 31, l, 0);
     rows::turn_row(levels, l);
 }
 
@@ -197,8 +176,14 @@ fn fall(words: &mut [u32; 75])
 }
 
 // Tasks 1 to 24 in ascending number: each finite timeout falls by 1, and those reaching 0 end.
-pub fn lapse(bytes: &mut [u8; 250], words: &mut [u32; 75], levels: &mut [u8], waits: &mut [u8])
-    ensures { λ r. ⌜ listed (tasksOf (now (bytes .exit)) (now (words .exit))) (now (levels .exit)) (now (waits .exit)) ≡ lapsed 24 1 (listed (tasksOf (now (bytes .entry)) (now (words .entry))) (now (levels .entry)) (now (waits .entry))) ⌝ }
+pub fn lapse(
+    bytes: &mut [u8; 250],
+    words: &mut [u32; 75],
+    levels: &mut [u8; 744],
+    waits: &mut [u8; 504],
+    numbers: &[u32; 107],
+)
+    ensures { λ r. ⌜ after bytes words levels waits numbers ≡ lapsed 24 1 (before bytes words levels waits numbers) ⌝ }
 {
     if !is_due(words) {
         fall(words);
@@ -214,8 +199,7 @@ pub fn lapse(bytes: &mut [u8; 250], words: &mut [u32; 75], levels: &mut [u8], wa
         }
         let k = record_at(bytes, words, t);
         let x = records::ended(k, ran_out(k), 0);
-        requeue(levels, waits, t as u8, k, x);
-        put_record(bytes, words, t, x);
+        move_from(bytes, words, levels, waits, numbers, t as u8, k, x);
         t = t + 1;
     }
 }
@@ -224,12 +208,13 @@ pub fn lapse(bytes: &mut [u8; 250], words: &mut [u32; 75], levels: &mut [u8], wa
 pub fn tell_all(
     bytes: &mut [u8; 250],
     words: &mut [u32; 75],
-    levels: &mut [u8],
-    waits: &mut [u8],
+    levels: &mut [u8; 744],
+    waits: &mut [u8; 504],
+    numbers: &[u32; 107],
     q: [u8; 24],
     news: News,
 )
-    ensures { λ r. ⌜ listed (tasksOf (now (bytes .exit)) (now (words .exit))) (now (levels .exit)) (now (waits .exit)) ≡ toldAll news q (listed (tasksOf (now (bytes .entry)) (now (words .entry))) (now (levels .entry)) (now (waits .entry))) ⌝ }
+    ensures { λ r. ⌜ after bytes words levels waits numbers ≡ toldAll news q (before bytes words levels waits numbers) ⌝ }
 {
     let mut i: usize = 0;
     while i < 24 {
@@ -237,11 +222,9 @@ pub fn tell_all(
         if t == 0 {
             return;
         }
-        let at = t as usize;
-        let k = record_at(bytes, words, at);
+        let k = record_at(bytes, words, t as usize);
         let x = records::told(news, k);
-        requeue(levels, waits, t, k, x);
-        put_record(bytes, words, at, x);
+        move_from(bytes, words, levels, waits, numbers, t, k, x);
         i = i + 1;
     }
 }

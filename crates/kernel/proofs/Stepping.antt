@@ -20,9 +20,12 @@ use Rattle.model.specs.Call.{named, subject, plan, planned, step}
 use Rattle.model.specs.declared.Effect.{Effect}
 use Rattle.model.specs.declared.Effect.the-variants.{Nothing, Moves, Stops, Counts, Deletes, Slices, Ticks, Flags, Tells}
 use Rattle.carry.specs.From.{carriedFrom}
-use Rattle.effects.specs.Parts.{stateOf}
 use Rattle.kernel.specs.declared.Stepped.{Stepped}
-use Rattle.kernel.specs.Answer.{answerOf, plannedFrom, stepFrom}
+use Rattle.kernel.specs.Answer.{answerOf, plannedFrom, stepFrom, numbersOf, stateWith}
+use Rattle.stored.specs.Stored.{tasksOf}
+use Rattle.numbers.specs.declared.Numbers.{Numbers}
+use Rattle.numbers.specs.Numbers.{heldIn}
+use Rattle.effects.specs.Lent.{stateIn}
 
 pub stepped : (s : State) (c : Context) (a : Call) (run m : ℕ) (x : Semaphore) (y : Flag) (t : ℕ) (k : Task) (p : Plan) (s₁ : State) (run₁ : ℕ)
     → m ≡ named a → x ≡ semaphore s m → y ≡ flag s m → t ≡ subject a run (x .first) (y .first) → k ≡ getD (s .tasks) t noTask → p ≡ plan c a run k x y
@@ -50,16 +53,15 @@ pub step-from : (s : State) (run : ℕ) (c : Context) (a : Call) → run ≡ bes
 unfolding step planned stepFrom plannedFrom running
 step-from s run c a e = rw (e, carried-from s (plannedFrom (running s) s c a .effect))
 
--- a step of a whole state: its records go into the tables, and those that come out of them are its next ones
-pub whole : (s : State) (c : Context) (a : Call) (run : ℕ) (ts : List Task) (r : Stepped) (ts′ : List Task) (ls ws ss cs ns vs ats bs : List ℕ) (tm : ℕ) (next : List Task)
-    → ts ≡ s .tasks → run ≡ bestFrom 30 1 (s .levels)
-    → answerOf r (stateOf ts′ ls ws ss cs ns vs ats bs tm) ≡ stepFrom run (stateOf ts (s .levels) (s .waits) (s .slices) (s .charges) (s .counts) (s .maxima) (s .attributes) (s .bits) (s .time)) c a
-    → next ≡ ts′ → answerOf r (stateOf next ls ws ss cs ns vs ats bs tm) ≡ step s c a
-whole s c a run ts r ts′ ls ws ss cs ns vs ats bs tm next e b h g =
-    ap (λ (l : List Task). answerOf r (stateOf l ls ws ss cs ns vs ats bs tm)) g
-    ∙ h
-    ∙ ap (λ (l : List Task). stepFrom run (stateOf l (s .levels) (s .waits) (s .slices) (s .charges) (s .counts) (s .maxima) (s .attributes) (s .bits) (s .time)) c a) e
-    ∙ step-from s run c a b
+-- a step of a whole state: its records and numbers go into the tables, and those that come out of them are its next ones
+pub whole : (s : State) (c : Context) (a : Call) (run : ℕ) (b w ns b′ w′ ls ws ns′ : List ℕ) (r : Stepped) (next : List Task) (x : Numbers) (z : State)
+    → tasksOf b w ≡ s .tasks → heldIn ns ≡ numbersOf s → run ≡ bestFrom 30 1 (s .levels)
+    → answerOf r (stateIn b′ w′ ls ws ns′) ≡ stepFrom run (stateIn b w (s .levels) (s .waits) ns) c a
+    → next ≡ tasksOf b′ w′ → x ≡ heldIn ns′ → z ≡ stateWith next ls ws x → answerOf r z ≡ step s c a
+whole s c a run b w ns b′ w′ ls ws ns′ r next x z e f g h i j k =
+    let p : z ≡ stateIn b′ w′ ls ws ns′ = rw (k, i, j) in
+    let q : stateIn b w (s .levels) (s .waits) ns ≡ s = ap (λ (y : Numbers). stateWith (tasksOf b w) (s .levels) (s .waits) y) f ∙ rw e in
+    ap (answerOf r) p ∙ h ∙ ap (λ (y : State). stepFrom run y c a) q ∙ step-from s run c a g
 
 -- who runs after a step is who runs before the next one
 pub runs-on : (r : Answer) (run : ℕ) (s : State) (c : Context) (a : Call) → r ≡ stepFrom run s c a → r .running ≡ bestFrom 30 1 (r .state .levels)

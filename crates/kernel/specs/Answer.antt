@@ -1,7 +1,10 @@
 -- A step's answer, put together from what it returned and the tables it was lent, and the step where `run` is said to run.
 -- It is the step of the model where `run` does.
 use Prim.Native.Nat.{ℕ}
+use mathlib.Core.List.{List}
+use Rattle.model.specs.declared.Task.{Task}
 use Rattle.model.specs.declared.State.{State}
+use Rattle.numbers.specs.declared.Numbers.{Numbers}
 use Rattle.model.specs.declared.Answer.{Answer}
 use Rattle.model.specs.declared.Context.{Context}
 use Rattle.model.specs.declared.Call.{Call}
@@ -25,3 +28,10 @@ stepFrom run s c a =
     let p = plannedFrom run s c a in
     let s₁ = carriedFrom run s (p .effect) in
     record { code = p .code; running = running s₁; value = p .value; state = s₁ }
+
+-- a state's numbers, and a state with them
+abbrev pub numbersOf : State → Numbers
+numbersOf s = record { slices = s .slices; charges = s .charges; counts = s .counts; maxima = s .maxima; attributes = s .attributes; bits = s .bits; time = s .time }
+
+abbrev pub stateWith : List Task → List ℕ → List ℕ → Numbers → State
+stateWith tasks levels waits x = record { tasks = tasks; levels = levels; waits = waits; slices = x .slices; charges = x .charges; counts = x .counts; maxima = x .maxima; attributes = x .attributes; bits = x .bits; time = x .time }

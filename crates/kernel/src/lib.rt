@@ -3,14 +3,15 @@
 ghost use mathlib.Core.Path.{_≡_};
 ghost use Rattle.model.specs.State.{fresh};
 ghost use Rattle.model.specs.Call.{step, call};
-ghost use Rattle.stored.specs.Stored.{tasksOf};
-ghost use Rattle.effects.specs.Parts.{stateOf};
-ghost use Rattle.kernel.specs.Answer.{answerOf, stepFrom};
+ghost use Rattle.effects.specs.Lent.{before, after};
+ghost use Rattle.kernel.specs.Answer.{answerOf, stepFrom, numbersOf, stateWith};
 use model::Answer;
 use model::Call;
 use model::Code;
 use model::Context;
 use model::State;
+use model::Task;
+use numbers::Numbers;
 
 // Nothing created, time 0 and no slices.
 pub fn fresh() -> State
@@ -21,11 +22,11 @@ pub fn fresh() -> State
         tasks: [none; 25],
         levels: [0u8; 744],
         waits: [0u8; 504],
-        slices: [0u16; 31],
-        charges: [0u16; 31],
-        counts: [0u16; 13],
-        maxima: [0u16; 13],
-        attributes: [0u8; 9],
+        slices: [0u32; 31],
+        charges: [0u32; 31],
+        counts: [0u32; 13],
+        maxima: [0u32; 13],
+        attributes: [0u32; 9],
         bits: [0u32; 9],
         time: 0,
     }
@@ -44,30 +45,62 @@ pub fn step_in(
     words: &mut [u32; 75],
     levels: &mut [u8; 744],
     waits: &mut [u8; 504],
-    slices: &mut [u16; 31],
-    charges: &mut [u16; 31],
-    counts: &mut [u16; 13],
-    maxima: &mut [u16; 13],
-    attributes: &mut [u8; 9],
-    bits: &mut [u32; 9],
-    time: &mut u32,
+    numbers: &mut [u32; 107],
     run: u8,
     c: Context,
     a: Call,
 ) -> Stepped
-    ensures { λ r. ⌜ answerOf r (stateOf (tasksOf (now (bytes .exit)) (now (words .exit))) (now (levels .exit)) (now (waits .exit)) (now (slices .exit)) (now (charges .exit)) (now (counts .exit)) (now (maxima .exit)) (now (attributes .exit)) (now (bits .exit)) (now (time .exit))) ≡ stepFrom run (stateOf (tasksOf (now (bytes .entry)) (now (words .entry))) (now (levels .entry)) (now (waits .entry)) (now (slices .entry)) (now (charges .entry)) (now (counts .entry)) (now (maxima .entry)) (now (attributes .entry)) (now (bits .entry)) (now (time .entry))) c a ⌝ }
+    ensures { λ r. ⌜ answerOf r (after bytes words levels waits numbers) ≡ stepFrom run (before bytes words levels waits numbers) c a ⌝ }
 {
     let named = plans::named(a);
-    let x = effects::semaphore_at(counts, maxima, waits, named);
-    let y = effects::flag_at(attributes, bits, waits, named);
+    let x = effects::semaphore_at(numbers, waits, named);
+    let y = effects::flag_at(numbers, waits, named);
     let k = stored::record_at(bytes, words, plans::subject(a, run, x.first, y.first));
     let p = plans::plan(c, a, run, k, x, y);
     let code = p.code;
     let value = p.value;
     let effect = p.effect;
-    carry::carry(
-        bytes,
-        words,
+    carry::carry(bytes, words, levels, waits, numbers, run, effect);
+    let running = rows::best(levels);
+    Stepped {
+        code,
+        running,
+        value,
+    }
+}
+
+// A state's numbers, and a state with them.
+fn numbers_of(s: State) -> Numbers
+    ensures { λ r. ⌜ r ≡ numbersOf s ⌝ }
+{
+    let slices = s.slices;
+    let charges = s.charges;
+    let counts = s.counts;
+    let maxima = s.maxima;
+    let attributes = s.attributes;
+    let bits = s.bits;
+    Numbers {
+        slices,
+        charges,
+        counts,
+        maxima,
+        attributes,
+        bits,
+        time: s.time,
+    }
+}
+
+fn state_with(tasks: [Task; 25], levels: [u8; 744], waits: [u8; 504], x: Numbers) -> State
+    ensures { λ r. ⌜ r ≡ stateWith tasks levels waits x ⌝ }
+{
+    let slices = x.slices;
+    let charges = x.charges;
+    let counts = x.counts;
+    let maxima = x.maxima;
+    let attributes = x.attributes;
+    let bits = x.bits;
+    State {
+        tasks,
         levels,
         waits,
         slices,
@@ -76,15 +109,7 @@ pub fn step_in(
         maxima,
         attributes,
         bits,
-        time,
-        run,
-        effect,
-    );
-    let running = rows::best(levels);
-    Stepped {
-        code,
-        running,
-        value,
+        time: x.time,
     }
 }
 
@@ -98,48 +123,28 @@ pub fn step(s: State, c: Context, a: Call) -> Answer
     stored::spread(&mut bytes, &mut words, tasks);
     let mut levels = s.levels;
     let mut waits = s.waits;
-    let mut slices = s.slices;
-    let mut charges = s.charges;
-    let mut counts = s.counts;
-    let mut maxima = s.maxima;
-    let mut attributes = s.attributes;
-    let mut bits = s.bits;
-    let mut time = s.time;
+    let mut numbers = [0u32; 107];
+    numbers::spread(&mut numbers, numbers_of(s));
     let run = rows::best(&levels);
     let r = step_in(
         &mut bytes,
         &mut words,
         &mut levels,
         &mut waits,
-        &mut slices,
-        &mut charges,
-        &mut counts,
-        &mut maxima,
-        &mut attributes,
-        &mut bits,
-        &mut time,
+        &mut numbers,
         run,
         c,
         a,
     );
     let next = stored::gather(&bytes, &words);
+    let x = numbers::gather(&numbers);
     let code = r.code;
+    let state = state_with(next, levels, waits, x);
     Answer {
         code,
         running: r.running,
         value: r.value,
-        state: State {
-            tasks: next,
-            levels,
-            waits,
-            slices,
-            charges,
-            counts,
-            maxima,
-            attributes,
-            bits,
-            time,
-        },
+        state,
     }
 }
 

@@ -35,7 +35,7 @@ use Rattle.model.specs.Call.{inT, inI, eventPlan, plan, planned, step}
 use Rattle.model.specs.Sound.{Sound}
 use Rattle.kept.proofs.Kept.{sound-stays-sound, refused-is-unchanged}
 use Rattle.kept.proofs.Running.{runner}
-use Rattle.runner.specs.Rows.{signed}
+use Rattle.walk.specs.Rows.{signed}
 use Rattle.runner.proofs.Widths.{width-most}
 
 -- ---- codes

@@ -26,8 +26,8 @@ use Rattle.lines.proofs.Within.{LineIn, line-in}
 use Rattle.lines.proofs.Long.{extra, LineHas, line-has, header-has}
 use Rattle.runner.specs.declared.Ran.{Ran}
 use Rattle.runner.specs.declared.Ran.the-variants.{Wrote, TooLong, Unreadable, Short}
-use Rattle.runner.specs.Script.{next, lineThen, scriptIn, headerThen, scriptOf, faultOf}
-use Rattle.runner.specs.Rows.{rowsBy, rowsOf, rowsText, textOf}
+use Rattle.walk.specs.Script.{next, lineThen, scriptIn, headerThen, scriptOf, faultOf}
+use Rattle.walk.specs.Rows.{rowsBy, rowsOf, rowsText, textOf}
 use Rattle.runner.specs.Outcome.{judged, ranOf}
 use Rattle.longest.specs.Statement.{FewCalls, FewWideCalls, ShortAnswer, RoomEnough, NeverShort}
 use Rattle.longest.proofs.Ended.{LineEnds, line-ends, header-ends}

@@ -32,10 +32,10 @@ use Rattle.lines.specs.Services.{tasks, system, semaphores, events, services, s
 use Rattle.lines.specs.Fields.{fieldOf, commaField, endOf, lastField, narrowTail, wideTail, tailOf, fieldsOf}
 use Rattle.lines.specs.Lines.{letterOf, lineOf, headed, headerOf}
 use Rattle.runner.specs.declared.Ran.the-variants.{Wrote}
-use Rattle.runner.specs.Script.{Script, done, next, scriptIn, scriptOf, faultOf}
-use Rattle.runner.specs.Rows.{Row, rowsBy, rowsOf, signed, rowsText, textOf}
+use Rattle.walk.specs.Script.{Script, done, next, scriptIn, scriptOf, faultOf}
+use Rattle.walk.specs.Rows.{Row, rowsBy, rowsOf, signed, rowsText, textOf}
 use Rattle.runner.specs.Outcome.{judged, ranOf}
-use Rattle.runner.proofs.Scripts.{script-drop, script-end, script-next}
+use Rattle.walk.proofs.Scripts.{script-drop, script-end, script-next}
 use Rattle.longest.specs.Statement.{refusal, refusals, longest, Reached, longestWide, WideReached}
 use Rattle.longest.proofs.Rows.{digitsFrom, digits-all, row-text, next-rows}
 

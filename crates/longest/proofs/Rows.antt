@@ -16,8 +16,8 @@ use Rattle.model.specs.Call.{step, call}
 use Rattle.model.specs.Sound.{Sound}
 use Rattle.kept.proofs.Kept.{fresh-is-sound, sound-stays-sound}
 use Rattle.tested.proofs.Same.{sound-exactly}
-use Rattle.runner.specs.Script.{Script, done, fault, next}
-use Rattle.runner.specs.Rows.{Row, rowsBy, rowsOf, signed, rowText, rowsText}
+use Rattle.walk.specs.Script.{Script, done, fault, next}
+use Rattle.walk.specs.Rows.{Row, rowsBy, rowsOf, signed, rowText, rowsText}
 use Rattle.longest.proofs.Codes.{step-code, step-runs, step-idle}
 
 -- ---- digits

@@ -9,8 +9,8 @@ use Rattle.text.specs.Bytes.{bytes}
 use Rattle.lines.specs.declared.line.Header.the-variants.{Ends}
 use Rattle.lines.specs.Lines.{headerOf}
 use Rattle.runner.specs.declared.Ran.the-variants.{Wrote, Short}
-use Rattle.runner.specs.Script.{scriptOf}
-use Rattle.runner.specs.Rows.{rowsOf, textOf}
+use Rattle.walk.specs.Script.{scriptOf}
+use Rattle.walk.specs.Rows.{rowsOf, textOf}
 use Rattle.runner.specs.Outcome.{ranOf}
 
 abbrev pub FewCalls : Type 0

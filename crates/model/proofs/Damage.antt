@@ -5,16 +5,17 @@ use mathlib.Core.Bool.{Bool, true, false, not, _&&_}
 use mathlib.Core.List.{List, [], _∷_}
 use Prim.Native.Nat.{ℕ}
 use lib.Dec.{T}
-use lib.ListN.{set}
+use lib.ListN.{set, take}
 use Rattle.model.specs.declared.Task.{Task}
 use Rattle.model.specs.declared.State.{State}
 use Rattle.model.specs.declared.Context.{Context}
 use Rattle.model.specs.declared.Call.{Call}
 use Rattle.model.specs.declared.Code.the-variants.{Unsound}
 use Rattle.model.specs.Row
+use Rattle.model.specs.Row.{row, withRow}
 use Rattle.model.specs.Flag
 use Rattle.model.specs.Task as Record
-use Rattle.model.specs.Task.{noTask, dormant, activated, waiting, withPriority, withSuspended, withWakeups, withActivations, withRemaining}
+use Rattle.model.specs.Task.{noTask, ofActive, ofCode, ofHanded, with, withWait, asleep, onSemaphore, onFlag, dormant, activated, waiting, withPriority, withSuspended, withWakeups, withActivations, withRemaining}
 use Rattle.model.specs.State
 use Rattle.model.specs.State.{fresh, task, moved, counted, flagged, sliced, withCharge}
 use Rattle.model.specs.Plan
@@ -26,55 +27,66 @@ use Rattle.model.specs.Call as Calls
 pub sound : State
 sound =
     withCharge 5 2 (sliced 5 4 (flagged 2 2 3 (counted 3 0 7
-    (moved 7 (waiting (activated (dormant 9)) 3 2 9 6 1) (moved 6 (dormant 8) (moved 4 (waiting (activated (dormant 30)) 1 0 4294967295 0 0)
-    (moved 2 (waiting (activated (dormant 5)) 2 3 9 0 0) (moved 1 (activated (dormant 5)) fresh))))))))
+    (moved 7 (waiting (activated (dormant 9)) (onFlag 2 6 1 9)) (moved 6 (dormant 8) (moved 4 (waiting (activated (dormant 30)) (asleep 4294967295))
+    (moved 2 (waiting (activated (dormant 5)) (onSemaphore 3 9)) (moved 1 (activated (dormant 5)) fresh))))))))
 
--- the state with another record, or another number at a place of a table, and nothing else changed
+-- the state with another record, or another number at a place of a queue, and nothing else changed
 recorded : ℕ → Task → State
-recorded t x = record { tasks = set (sound .tasks) t x; levels = sound .levels; waits = sound .waits; slices = sound .slices; charges = sound .charges; counts = sound .counts; maxima = sound .maxima; attributes = sound .attributes; bits = sound .bits; time = sound .time }
+recorded t x = record { tasks = set (sound .tasks) t x; levels = sound .levels; waits = sound .waits; numbers = sound .numbers }
 
-levelled : ℕ → ℕ → State
-levelled i t = record { tasks = sound .tasks; levels = set (sound .levels) i t; waits = sound .waits; slices = sound .slices; charges = sound .charges; counts = sound .counts; maxima = sound .maxima; attributes = sound .attributes; bits = sound .bits; time = sound .time }
+levelled : ℕ → ℕ → ℕ → State
+levelled l i t = record { tasks = sound .tasks; levels = withRow (sound .levels) l (set (row (sound .levels) l) i t); waits = sound .waits; numbers = sound .numbers }
 
-queued : ℕ → ℕ → State
-queued i t = record { tasks = sound .tasks; levels = sound .levels; waits = set (sound .waits) i t; slices = sound .slices; charges = sound .charges; counts = sound .counts; maxima = sound .maxima; attributes = sound .attributes; bits = sound .bits; time = sound .time }
+queued : ℕ → ℕ → ℕ → State
+queued m i t = record { tasks = sound .tasks; levels = sound .levels; waits = withRow (sound .waits) m (set (row (sound .waits) m) i t); numbers = sound .numbers }
+
+-- a table that is cut short, and a queue that is
+tabled : List ℕ → State
+tabled ns = record { tasks = sound .tasks; levels = sound .levels; waits = sound .waits; numbers = record { slices = sound .numbers .slices; charges = sound .numbers .charges; counts = ns; maxima = sound .numbers .maxima; attributes = sound .numbers .attributes; bits = sound .numbers .bits; time = 0 } }
+
+shortened : ℕ → State
+shortened l = record { tasks = sound .tasks; levels = withRow (sound .levels) l (take 23 (row (sound .levels) l)); waits = sound .waits; numbers = sound .numbers }
+
+narrowed : ℕ → State
+narrowed m = record { tasks = sound .tasks; levels = sound .levels; waits = withRow (sound .waits) m (take 23 (row (sound .waits) m)); numbers = sound .numbers }
 
 withCode : Task → ℕ → Task
-withCode x v = record { base = x .base; priority = x .priority; active = x .active; suspended = x .suspended; wait = x .wait; object = x .object; wakeups = x .wakeups; activations = x .activations; code = v; mode = x .mode; remaining = x .remaining; pattern = x .pattern; handed = x .handed }
-
-withObject : Task → ℕ → ℕ → Task
-withObject x w n = record { base = x .base; priority = x .priority; active = x .active; suspended = x .suspended; wait = w; object = n; wakeups = x .wakeups; activations = x .activations; code = x .code; mode = x .mode; remaining = x .remaining; pattern = x .pattern; handed = x .handed }
+withCode x v = with ofCode v x
 
 withActive : Task → ℕ → Task
-withActive x n = record { base = x .base; priority = x .priority; active = n; suspended = x .suspended; wait = x .wait; object = x .object; wakeups = x .wakeups; activations = x .activations; code = x .code; mode = x .mode; remaining = x .remaining; pattern = x .pattern; handed = x .handed }
+withActive x n = with ofActive n x
+
+-- another kind of wait and object
+withObject : Task → ℕ → ℕ → Task
+withObject x w n = let y = x .wait in withWait (record { kind = w; object = n; mode = y .mode; remaining = y .remaining; pattern = y .pattern }) x
 
 -- what is asked for, and what is handed over
 withAsk : Task → ℕ → ℕ → ℕ → Task
-withAsk x p m b = record { base = x .base; priority = x .priority; active = x .active; suspended = x .suspended; wait = x .wait; object = x .object; wakeups = x .wakeups; activations = x .activations; code = x .code; mode = m; remaining = x .remaining; pattern = p; handed = b }
+withAsk x p m b = let y = x .wait in with ofHanded b (withWait (record { kind = y .kind; object = y .object; mode = m; remaining = y .remaining; pattern = p }) x)
 
 abbrev runner : Task
 runner = activated (dormant 5)
 
 abbrev waiter : Task
-waiter = waiting (activated (dormant 5)) 2 3 9 0 0
+waiter = waiting (activated (dormant 5)) (onSemaphore 3 9)
 
 abbrev sleeper : Task
-sleeper = waiting (activated (dormant 30)) 1 0 4294967295 0 0
+sleeper = waiting (activated (dormant 30)) (asleep 4294967295)
 
 abbrev idler : Task
 idler = dormant 8
 
 abbrev asker : Task
-asker = waiting (activated (dormant 9)) 3 2 9 6 1
+asker = waiting (activated (dormant 9)) (onFlag 2 6 1 9)
 
 pub damaged : List State
 damaged =
     -- a level lists exactly the runnable tasks of that priority, once each
-    levelled 120 0 ∷ levelled 121 1 ∷ levelled 121 6 ∷ levelled 121 25 ∷ levelled 144 1 ∷ levelled 0 1 ∷ recorded 1 (withPriority runner 6)
+    levelled 5 0 0 ∷ levelled 5 1 1 ∷ levelled 5 1 6 ∷ levelled 5 1 25 ∷ levelled 6 0 1 ∷ levelled 0 0 1 ∷ recorded 1 (withPriority runner 6)
     -- a semaphore lists exactly the tasks waiting on it, once each
-    ∷ queued 72 0 ∷ queued 73 2 ∷ queued 73 4 ∷ queued 96 2 ∷ queued 0 2 ∷ recorded 2 (withObject waiter 2 4)
+    ∷ queued 3 0 0 ∷ queued 3 1 2 ∷ queued 3 1 4 ∷ queued 4 0 2 ∷ queued 0 0 2 ∷ recorded 2 (withObject waiter 2 4)
     -- places past the end hold 0
-    ∷ levelled 122 1 ∷ queued 95 255
+    ∷ levelled 5 2 1 ∷ queued 3 23 255
     -- the count is at most the maximum, and 0 while anyone waits; a maximum is at most 65,535
     ∷ counted 4 8 7 sound ∷ counted 3 1 7 sound ∷ counted 4 0 65536 sound
     -- a waiting task has remaining ticks of 1 or more and wait code 0; any other has remaining 0
@@ -94,15 +106,17 @@ damaged =
     ∷ recorded 9 (withPriority noTask 1) ∷ recorded 9 (withCode noTask 4) ∷ recorded 9 (withActive noTask 1) ∷ counted 4 1 0 sound
     ∷ recorded 6 (dormant 31) ∷ recorded 1 (withPriority runner 31) ∷ recorded 1 (withPriority runner 0) ∷ recorded 1 (withActive runner 2) ∷ moved 1 (withSuspended runner 2) sound
     -- a flag lists exactly the tasks waiting on it, once each
-    ∷ queued 336 0 ∷ queued 337 7 ∷ queued 312 7 ∷ queued 337 2 ∷ recorded 7 (withObject asker 3 3) ∷ recorded 7 (withObject asker 2 2)
+    ∷ queued 14 0 0 ∷ queued 14 1 7 ∷ queued 13 0 7 ∷ queued 14 1 2 ∷ recorded 7 (withObject asker 3 3) ∷ recorded 7 (withObject asker 2 2)
     -- what a wait asks for is in range, and 0 outside it
     ∷ recorded 7 (withAsk asker 0 0 0) ∷ recorded 7 (withAsk asker 4 2 0) ∷ recorded 1 (withAsk runner 1 0 0) ∷ recorded 1 (withAsk runner 0 1 0) ∷ recorded 2 (withAsk waiter 1 0 0) ∷ recorded 4 (withAsk sleeper 0 1 0)
     -- what it hands over is 0 during any wait and while dormant
     ∷ recorded 2 (withAsk waiter 0 0 1) ∷ recorded 4 (withAsk sleeper 0 0 1) ∷ recorded 7 (withAsk asker 6 1 1) ∷ recorded 6 (withAsk idler 0 0 1) ∷ recorded 9 (withAsk noTask 0 0 1) ∷ recorded 9 (withAsk noTask 1 0 0)
     -- no waiter is met already, and at most one waits on SINGLE; whoever waits, waits on a created flag
-    ∷ flagged 2 2 6 sound ∷ flagged 2 2 14 sound ∷ moved 8 (waiting (activated (dormant 9)) 3 2 9 8 0) sound ∷ flagged 2 0 0 sound ∷ moved 7 (withObject asker 3 9) sound ∷ moved 7 (withObject asker 4 2) sound
+    ∷ flagged 2 2 6 sound ∷ flagged 2 2 14 sound ∷ moved 8 (waiting (activated (dormant 9)) (onFlag 2 8 0 9)) sound ∷ flagged 2 0 0 sound ∷ moved 7 (withObject asker 3 9) sound ∷ moved 7 (withObject asker 4 2) sound
     -- a flag not created has no bits; a created one has attributes 0, 1 or 3
     ∷ flagged 3 0 1 sound ∷ flagged 3 3 0 sound ∷ flagged 3 5 0 sound
+    -- the tables have their places, and each queue has its own
+    ∷ tabled (0 ∷ []) ∷ shortened 5 ∷ narrowed 3
     -- place 0 of every table is unused
     ∷ recorded 0 (dormant 5) ∷ sliced 0 1 sound ∷ counted 0 0 1 sound ∷ flagged 0 1 0 sound ∷ flagged 0 0 1 sound
     ∷ []
@@ -112,7 +126,7 @@ noneIsSound [] = true
 noneIsSound (s ∷ rest) = not (Test.isSound s) && noneIsSound rest
 
 pub tells : T (Test.isSound sound && noneIsSound damaged)
-unfolding sound damaged recorded levelled queued withCode withObject withActive withAsk noneIsSound State.moved State.counted State.flagged State.sliced Row.place Row.gap Row.joined Row.left Row.row Row.withRow Row.leftRow Row.joinedRow Row.relisted Record.levelOf Record.rowOf Flag.areKept Flag.isMet Flag.flagRow Test.below Test.everyRow Test.occ Test.zeros Test.listsOnly Test.isFiled Test.listsExactly Test.isTaskSound Test.isRateSound Test.isCountSound Test.isFlagSound Test.isUnmet Test.isSound Plan.within
+unfolding sound damaged recorded levelled queued tabled shortened narrowed withCode withObject withActive withAsk noneIsSound State.moved State.counted State.flagged State.sliced Row.place Row.gap Row.joined Row.left Row.row Row.withRow Row.leftRow Row.joinedRow Row.relisted Record.levelOf Record.rowOf Flag.areKept Flag.isMet Flag.flagRow Test.below Test.everyRow Test.occ Test.zeros Test.listsOnly Test.isFiled Test.listsExactly Test.isTaskSound Test.isRateSound Test.isCountSound Test.isFlagSound Test.isUnmet Test.isSound Plan.within
 tells = tt
 
 -- any state that fails the test gets UNSOUND and task 0, and comes back as it was

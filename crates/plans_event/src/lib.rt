@@ -30,7 +30,7 @@ pub mod poll;
 
 // ---- a flag's bits
 // CLR zeroes the bits when a wait or poll is met.
-fn bits_left(attributes: u8, met: bool, bits: u32) -> u32
+fn bits_left(attributes: u32, met: bool, bits: u32) -> u32
     ensures { λ r. ⌜ r ≡ bitsLeft attributes met bits ⌝ }
 {
     if attributes == 4 {
@@ -100,7 +100,7 @@ pub fn event_create(mine: bool, flag: u32, attributes: u32, bits: u32, y: Flag) 
         return refused(Code::WContext);
     }
     let f = flag as u8;
-    let kept = (attributes + 1) as u8;
+    let kept = attributes + 1;
     flags(f, kept, bits)
 }
 

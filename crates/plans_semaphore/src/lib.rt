@@ -40,9 +40,7 @@ pub fn sem_create(mine: bool, semaphore: u32, start: u32, maximum: u32, x: Semap
         return refused(Code::WContext);
     }
     let m = semaphore as u8;
-    let n = start as u16;
-    let v = maximum as u16;
-    counts(m, n, v)
+    counts(m, start, maximum)
 }
 
 // k is the record of the first waiter.

@@ -69,8 +69,7 @@ pub fn tslice_ticks(mine: bool, level: u32, slice: u32) -> Plan
         return refused(Code::WContext);
     }
     let l = level as u8;
-    let v = slice as u16;
-    does(Effect::Slices { level: l, slice: v })
+    does(Effect::Slices { level: l, slice })
 }
 
 pub fn tick(mine: bool) -> Plan

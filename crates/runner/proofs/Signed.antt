@@ -22,8 +22,8 @@ use Rattle.lines.specs.declared.line.Header.the-variants.{Ends, NoHeader}
 use Rattle.lines.specs.Lines.{lineOf, headerOf}
 use Rattle.runner.specs.declared.Ran.{Ran}
 use Rattle.runner.specs.declared.Ran.the-variants.{Wrote, TooLong, Unreadable, Short}
-use Rattle.runner.specs.Script.{Script, done, fault, next, lineThen, scriptIn, headerThen, scriptOf, faultOf}
-use Rattle.runner.specs.Rows.{textOf}
+use Rattle.walk.specs.Script.{Script, done, fault, next, lineThen, scriptIn, headerThen, scriptOf, faultOf}
+use Rattle.walk.specs.Rows.{textOf}
 use Rattle.runner.specs.Outcome.{judged, ranOf, numberOf, Small}
 
 neg-suc : (k : ℕ) → pos 0 -ℤ pos (suc k) ≡ negsuc k

@@ -13,8 +13,8 @@ use Rattle.model.specs.declared.Code.the-variants.{NoErr, Pending, Overflow, WC
 use Rattle.model.specs.State.{fresh}
 use Rattle.model.specs.Call.{step}
 use Rattle.runner.specs.declared.Played.{Played}
-use Rattle.runner.specs.Script.{Script, faultOf}
-use Rattle.runner.specs.Rows.{Row, rowsBy, rowsText}
+use Rattle.walk.specs.Script.{Script, faultOf}
+use Rattle.walk.specs.Rows.{Row, rowsBy, rowsText}
 
 -- the paper's number plus 12
 abbrev pub slotOf : Code → ℕ

@@ -1,4 +1,2 @@
-pub mod Script
-pub mod Rows
 pub mod Kept
 pub mod Outcome

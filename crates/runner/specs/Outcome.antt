@@ -9,8 +9,8 @@ use lib.Seq.{sets}
 use lib.IntN.{ℤ, pos, negsuc}
 use Rattle.runner.specs.declared.Ran.{Ran}
 use Rattle.runner.specs.declared.Ran.the-variants.{Wrote, TooLong, Unreadable, Short}
-use Rattle.runner.specs.Script.{Script, scriptOf, faultOf}
-use Rattle.runner.specs.Rows.{textOf}
+use Rattle.walk.specs.Script.{Script, scriptOf, faultOf}
+use Rattle.walk.specs.Rows.{textOf}
 
 unfoldable pub judged : Script → ℕ → Ran
 judged script room =

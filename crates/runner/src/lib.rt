@@ -6,17 +6,17 @@ ghost use mathlib.Core.List.{_++_};
 ghost use lib.ListN.{length, take};
 ghost use lib.Seq.{sets};
 ghost use Rattle.text.specs.Bytes.{bytes};
-ghost use Rattle.runner.specs.Script.{scriptIn};
+ghost use Rattle.walk.specs.Script.{scriptIn};
 ghost use Rattle.runner.specs.Kept.{slotOf, slotText, keptText, Plays, keptRows};
 ghost use Rattle.runner.specs.Outcome.{ranOf, numberOf, bufferOf, Small};
 use lines::line::Header;
-use lines::line::Line;
 use lines::line::read_header;
-use lines::line::read_line;
 use model::Code;
 use text::decimals::put_number;
 use text::decimals::width;
 use text::words::put_text;
+use walk::Turn;
+use walk::play_line;
 
 // What became of a file: the bytes written, or why it was refused.
 pub enum Ran {
@@ -109,21 +109,20 @@ fn play(file: &[u8], wide: bool, h: usize) -> Played
     let mut words = [0u32; 75];
     let mut levels = [0u8; 744];
     let mut waits = [0u8; 504];
-    let mut slices = [0u16; 31];
-    let mut charges = [0u16; 31];
-    let mut counts = [0u16; 13];
-    let mut maxima = [0u16; 13];
-    let mut attributes = [0u8; 9];
-    let mut bits = [0u32; 9];
-    let mut time: u32 = 0;
+    let mut numbers = [0u32; 107];
     let mut run: u8 = 0;
     while at < file.len() {
-        let Line::Reads {
-            context,
-            call,
-            next,
-        } = read_line(&file[at..], wide)
-        else {
+        let Turn::Plays { answer, next } = play_line(
+            &mut bytes,
+            &mut words,
+            &mut levels,
+            &mut waits,
+            &mut numbers,
+            run,
+            file,
+            wide,
+            at,
+        ) else {
             return Played {
                 fault: n + 2,
                 count: n,
@@ -132,31 +131,15 @@ fn play(file: &[u8], wide: bool, h: usize) -> Played
                 runs,
             };
         };
-        let r = kernel::step_in(
-            &mut bytes,
-            &mut words,
-            &mut levels,
-            &mut waits,
-            &mut slices,
-            &mut charges,
-            &mut counts,
-            &mut maxima,
-            &mut attributes,
-            &mut bits,
-            &mut time,
-            run,
-            context,
-            call,
-        );
-        let code = r.code;
-        let running = r.running;
+        let code = answer.code;
+        let running = answer.running;
         run = running;
         let v = slot(code);
         codes[n] = v;
         runs[n] = running;
         n = n + 1;
         total = total + row_width(n as u32, v, running);
-        at = at + next;
+        at = next;
     }
     Played {
         fault: 0,

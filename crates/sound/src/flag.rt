@@ -6,13 +6,13 @@ ghost use Rattle.model.specs.Flag.{areKept};
 ghost use Rattle.model.specs.Test.{isFlagSound, isUnmet};
 use model::Task;
 
-fn are_kept(attributes: u8) -> bool
+fn are_kept(attributes: u32) -> bool
     ensures { λ r. ⌜ r ≡ areKept attributes ⌝ }
 {
     (attributes == 0) | ((attributes == 1) | ((attributes == 2) | (attributes == 4)))
 }
 
-pub fn flag_sound(attributes: u8, bits: u32, first: u8, second: u8) -> bool
+pub fn flag_sound(attributes: u32, bits: u32, first: u8, second: u8) -> bool
     ensures { λ r. ⌜ r ≡ isFlagSound attributes bits first second ⌝ }
 {
     let kept = are_kept(attributes);

@@ -28,7 +28,7 @@ fn tasks_sound(tasks: [Task; 25]) -> bool
     sound
 }
 
-fn rates_sound(slices: [u16; 31], charges: [u16; 31]) -> bool
+fn rates_sound(slices: [u32; 31], charges: [u32; 31]) -> bool
     ensures { λ r. ⌜ r ≡ below 31 (λ l. isRateSound (getD slices l 0) (getD charges l 0)) ⌝ }
 {
     let mut sound = true;
@@ -41,7 +41,7 @@ fn rates_sound(slices: [u16; 31], charges: [u16; 31]) -> bool
     sound
 }
 
-fn counts_sound(counts: [u16; 13], maxima: [u16; 13], waits: [u8; 504]) -> bool
+fn counts_sound(counts: [u32; 13], maxima: [u32; 13], waits: [u8; 504]) -> bool
     ensures { λ r. ⌜ r ≡ below 13 (λ m. isCountSound (getD counts m 0) (getD maxima m 0) (firstOf waits m)) ⌝ }
 {
     let mut sound = true;
@@ -54,7 +54,7 @@ fn counts_sound(counts: [u16; 13], maxima: [u16; 13], waits: [u8; 504]) -> bool
     sound
 }
 
-fn flags_sound(attributes: [u8; 9], bits: [u32; 9], waits: [u8; 504]) -> bool
+fn flags_sound(attributes: [u32; 9], bits: [u32; 9], waits: [u8; 504]) -> bool
     ensures { λ r. ⌜ r ≡ below 9 (λ f. isFlagSound (getD attributes f 0) (getD bits f 0) (firstOf waits (flagRow f)) (secondOf waits (flagRow f))) ⌝ }
 {
     let mut sound = true;

@@ -116,26 +116,26 @@ pub fn task_sound(x: Task) -> bool
         & ask_sound
 }
 
-pub fn rate_sound(slice: u16, charge: u16) -> bool
+pub fn rate_sound(slice: u32, charge: u32) -> bool
     ensures { λ r. ⌜ r ≡ isRateSound slice charge ⌝ }
 {
     (slice <= 1000) & ((charge < slice) | ((slice == 0) & (charge == 0)))
 }
 
-pub fn count_sound(count: u16, maximum: u16, first: u8) -> bool
+pub fn count_sound(count: u32, maximum: u32, first: u8) -> bool
     ensures { λ r. ⌜ r ≡ isCountSound count maximum first ⌝ }
 {
-    (count <= maximum) & ((first == 0) | ((count == 0) & (maximum != 0)))
+    (count <= maximum) & ((maximum <= 65535) & ((first == 0) | ((count == 0) & (maximum != 0))))
 }
 
 // Place 0 of every table is unused.
 pub fn is_origin(
     x: Task,
-    slice: u16,
-    charge: u16,
-    count: u16,
-    maximum: u16,
-    attributes: u8,
+    slice: u32,
+    charge: u32,
+    count: u32,
+    maximum: u32,
+    attributes: u32,
     bits: u32,
 ) -> bool
     ensures { λ r. ⌜ r ≡ (isBlank x && (eqb slice 0 && (eqb charge 0 && (eqb count 0 && (eqb maximum 0 && (eqb attributes 0 && eqb bits 0)))))) ⌝ }

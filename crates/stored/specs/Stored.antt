@@ -12,14 +12,16 @@ recordAt bytes words t = record {
   priority = getD bytes (t * 10 + 1) 0;
   active = getD bytes (t * 10 + 2) 0;
   suspended = getD bytes (t * 10 + 3) 0;
-  wait = getD bytes (t * 10 + 4) 0;
-  object = getD bytes (t * 10 + 5) 0;
-  wakeups = getD bytes (t * 10 + 6) 0;
-  activations = getD bytes (t * 10 + 7) 0;
-  code = getD bytes (t * 10 + 8) 0;
-  mode = getD bytes (t * 10 + 9) 0;
-  remaining = getD words t 0;
-  pattern = getD words (t + 25) 0;
+  wakeups = getD bytes (t * 10 + 4) 0;
+  activations = getD bytes (t * 10 + 5) 0;
+  code = getD bytes (t * 10 + 6) 0;
+  wait = record {
+    kind = getD bytes (t * 10 + 7) 0;
+    object = getD bytes (t * 10 + 8) 0;
+    mode = getD bytes (t * 10 + 9) 0;
+    remaining = getD words t 0;
+    pattern = getD words (t + 25) 0;
+  };
   handed = getD words (t + 50) 0;
 }
 

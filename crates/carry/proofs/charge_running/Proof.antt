@@ -1,4 +1,3 @@
--- `carry::charge_running` meets its contract: by whether a task runs.
 use borrow.Author.Tests.{eq-eqb, ne-eqb}
 use borrow.Author.Needs.{needs}
 use Rattle.carry.proofs.charge_running.Statement.{statement}
@@ -10,15 +9,8 @@ returns c = rw (eq-eqb _ _ (c .if1 .taken))
 charge-requires : tie.Need-charge-requires
 charge-requires c κs = search needs
 
-same-length : tie.Need-same-length
-same-length c = search needs
-
-same-length-2 : tie.Need-same-length-2
-same-length-2 c = search needs
-
 returns-2 : tie.Need-returns-2
-returns-2 c = rw (ne-eqb _ _ (c .before .before .before .before .before .before .before .if1 .left)) (c .before .before .before .before .charge .ensures)
+returns-2 c = rw (c .charge .ensures, ne-eqb _ _ (c .before .before .before .if1 .left))
 
 pub charge-running-spec : {M : Type 1} → statement M
-charge-running-spec =
-    tie.close (tie.spec returns charge-requires same-length same-length-2 returns-2)
+charge-running-spec = tie.close (tie.spec returns charge-requires returns-2)

@@ -4,7 +4,7 @@ use mathlib.Core.Path.{_≡_, refl}
 use borrow.Author.Needs.{needs}
 use native.Mathlib.Omega.{arith}
 use lib.ListN.{length, length-set, take}
-use Rattle.effects.specs.Parts.{places}
+use Rattle.effects.specs.Lent.{places}
 use Rattle.carry.proofs.Copied as law
 use Rattle.carry.proofs.copy_row.Statement.{statement}
 use Rattle.carry.proofs.copy_row.Tie as tie

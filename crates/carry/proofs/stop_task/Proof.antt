@@ -1,5 +1,4 @@
--- `carry::stop_task` meets its contract: with an activation counted, and without.
-use Rattle.carry.proofs.Steps as law
+use Rattle.carry.proofs.Arms as law
 use borrow.Author.Needs.{needs}
 use Rattle.carry.proofs.stop_task.Statement.{statement}
 use Rattle.carry.proofs.stop_task.Tie as tie
@@ -13,14 +12,8 @@ dormant-requires c κs = search needs
 move-task-requires : tie.Need-move-task-requires
 move-task-requires c κs = search needs
 
-same-length : tie.Need-same-length
-same-length c = search needs
-
-same-length-2 : tie.Need-same-length-2
-same-length-2 c = search needs
-
 returns : tie.Need-returns
-returns c = law.rests _ _ _ _ _ _ _ _ _ (c .before .before .before .before .before .before .before .before .before .before .before .record-at .ensures) (c .before .before .before .before .before .before .before .before .before .before .dormant .ensures) (c .before .before .before .before .before .move-task .ensures) (c .if1 .taken)
+returns c = law.rests _ _ _ _ _ (c .before .before .before .before .before .before .before .record-at .ensures) (c .before .before .before .before .before .before .dormant .ensures) (c .before .move-task .ensures) (c .if1 .taken)
 
 activated-requires : tie.Need-activated-requires
 activated-requires c κs = search needs
@@ -28,14 +21,8 @@ activated-requires c κs = search needs
 move-task-requires-2 : tie.Need-move-task-requires-2
 move-task-requires-2 c κs = search needs
 
-same-length-3 : tie.Need-same-length-3
-same-length-3 c = search needs
-
-same-length-4 : tie.Need-same-length-4
-same-length-4 c = search needs
-
 returns-2 : tie.Need-returns-2
-returns-2 c = law.starts _ _ _ _ _ _ _ _ _ (c .before .before .before .before .before .before .before .before .before .before .before .before .before .before .before .before .before .before .before .before .before .record-at .ensures) (c .before .before .before .before .before .before .before .before .before .before .before .before .before .before .before .before .before .before .before .before .dormant .ensures) (c .before .before .before .before .before .before .before .before .before .before .before .before .before .before .before .move-task .ensures) _ _ _ _ (c .before .before .before .before .before .before .before .before .before .before .if1 .left) (c .before .before .before .before .before .activated .ensures) (c .before .before .before .before .move-task2 .ensures)
+returns-2 c = law.starts _ _ _ _ _ (c .before .before .before .before .before .before .before .before .before .before .before .before .before .record-at .ensures) (c .before .before .before .before .before .before .before .before .before .before .before .before .dormant .ensures) (c .before .before .before .before .before .before .before .move-task .ensures) _ _ (c .before .before .before .before .before .before .if1 .left) (c .before .activated .ensures) (c .move-task2 .ensures)
 
 pub stop-task-spec : {M : Type 1} → statement M
 stop-task-spec =
@@ -44,11 +31,7 @@ stop-task-spec =
     record-at-requires
     dormant-requires
     move-task-requires
-    same-length
-    same-length-2
     returns
     activated-requires
     move-task-requires-2
-    same-length-3
-    same-length-4
     returns-2)

@@ -1,13 +1,12 @@
--- `effects::flag_at` meets its contract: field by field.
 use borrow.Author.Needs.{needs}
 use Rattle.effects.proofs.flag_at.Statement.{statement}
 use Rattle.effects.proofs.flag_at.Tie as tie
 
-byte-at-requires : tie.Need-byte-at-requires
-byte-at-requires c κs = search needs
+number-at-requires : tie.Need-number-at-requires
+number-at-requires c κs = search needs
 
-bits-at-requires : tie.Need-bits-at-requires
-bits-at-requires c κs = search needs
+number-at-requires-2 : tie.Need-number-at-requires-2
+number-at-requires-2 c κs = search needs
 
 flag-row-requires : tie.Need-flag-row-requires
 flag-row-requires c κs = search needs
@@ -16,8 +15,9 @@ first-of-requires : tie.Need-first-of-requires
 first-of-requires c κs = search needs
 
 returns : tie.Need-returns
-returns c = rw (c .first-of .ensures, c .before .flag-row .ensures, c .before .before .bits-at .ensures, c .before .before .before .byte-at .ensures)
+returns c = rw (c .first-of .ensures, c .before .flag-row .ensures, c .before .before .before .number-at2 .ensures, c .before .before .before .before .before .number-at .ensures)
 
 pub flag-at-spec : {M : Type 1} → statement M
 flag-at-spec =
-    tie.close (tie.spec byte-at-requires bits-at-requires flag-row-requires first-of-requires returns)
+    tie.close
+    (tie.spec number-at-requires number-at-requires-2 flag-row-requires first-of-requires returns)

@@ -1,4 +1,3 @@
--- `effects::semaphore_at` meets its contract: field by field.
 use borrow.Author.Needs.{needs}
 use Rattle.effects.proofs.semaphore_at.Statement.{statement}
 use Rattle.effects.proofs.semaphore_at.Tie as tie
@@ -13,7 +12,7 @@ first-of-requires : tie.Need-first-of-requires
 first-of-requires c κs = search needs
 
 returns : tie.Need-returns
-returns c = rw (c .first-of .ensures, c .before .number-at2 .ensures, c .before .before .number-at .ensures)
+returns c = rw (c .first-of .ensures, c .before .before .number-at2 .ensures, c .before .before .before .before .number-at .ensures)
 
 pub semaphore-at-spec : {M : Type 1} → statement M
 semaphore-at-spec =

@@ -1,8 +1,6 @@
--- `kernel::step_in` meets its contract: its parts make a step, by the law of Stepping.
-use borrow.Author.Needs.{needs}
-use Rattle.stored.specs.Stored.{tasksOf}
-use Rattle.effects.specs.Parts.{stateOf}
+use Rattle.effects.specs.Lent.{stateIn}
 use Rattle.kernel.proofs.Stepping as law
+use borrow.Author.Needs.{needs}
 use Rattle.kernel.proofs.step_in.Statement.{statement}
 use Rattle.kernel.proofs.step_in.Tie as tie
 
@@ -31,10 +29,7 @@ best-requires : tie.Need-best-requires
 best-requires c κs = search needs
 
 returns : tie.Need-returns
-returns c =
-    let a = c .before .before .before .before .before .before .before .before .before .before .before .before .before .before .before .before .before .before .before .before .before .before .before .before .before .before .before .before .before .before .before .before .before .before .before .args in
-    let s = stateOf (tasksOf (a .bytes .now) (a .words .now)) (a .levels .now) (a .waits .now) (a .slices .now) (a .charges .now) (a .counts .now) (a .maxima .now) (a .attributes .now) (a .bits .now) (a .time .now) in
-    law.stepped s (a .c) (a .a) (a .run) _ _ _ _ _ _ _ _ (c .before .before .before .before .before .before .before .before .before .before .before .before .before .before .before .before .before .before .before .before .before .before .before .before .before .before .before .before .before .before .before .before .before .before .named .ensures) (c .before .before .before .before .before .before .before .before .before .before .before .before .before .before .before .before .before .before .before .before .before .before .before .before .before .before .before .semaphore-at .ensures) (c .before .before .before .before .before .before .before .before .before .before .before .before .before .before .before .before .before .before .before .before .flag-at .ensures) (c .before .before .before .before .before .before .before .before .before .before .before .before .before .before .before .before .before .subject .ensures) (c .before .before .before .before .before .before .before .before .before .before .before .before .before .before .before .before .record-at .ensures) (c .before .before .before .before .before .before .before .before .before .before .before .before .before .before .before .plan .ensures) (c .before .before .before .carry .ensures) (c .best .ensures)
+returns c = let a = c .before .before .before .before .before .before .before .before .before .before .before .before .before .before .before .before .before .before .before .before .before .args in law.stepped (stateIn (a .bytes .now) (a .words .now) (a .levels .now) (a .waits .now) (a .numbers .now)) (a .c) (a .a) (a .run) _ _ _ _ _ _ _ _ (c .before .before .before .before .before .before .before .before .before .before .before .before .before .before .before .before .before .before .before .before .named .ensures) (c .before .before .before .before .before .before .before .before .before .before .before .before .before .before .before .before .before .semaphore-at .ensures) (c .before .before .before .before .before .before .before .before .before .before .before .before .before .before .flag-at .ensures) (c .before .before .before .before .before .before .before .before .before .before .before .subject .ensures) (c .before .before .before .before .before .before .before .before .before .before .record-at .ensures) (c .before .before .before .before .before .before .before .before .before .plan .ensures) (c .before .before .before .carry .ensures) (c .best .ensures)
 
 pub step-in-spec : {M : Type 1} → statement M
 step-in-spec =

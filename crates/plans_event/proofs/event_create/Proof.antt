@@ -49,9 +49,6 @@ cast-f c = omega (arith, within-top _ _ _ (holds (c .before .before .before .bef
 add-kept : tie.Need-add-kept
 add-kept c = omega (arith, attributes-top (c .before .before .before .before .before .before .args .attributes) (holds (c .before .before .before .is-attributes .ensures) (c .before .before .if2 .left)))
 
-cast-kept : tie.Need-cast-kept
-cast-kept c = omega (arith, attributes-top (c .before .before .before .before .before .before .args .attributes) (holds (c .before .before .before .is-attributes .ensures) (c .before .before .if2 .left)))
-
 flags-requires : tie.Need-flags-requires
 flags-requires c κs = search needs
 
@@ -75,6 +72,5 @@ event-create-spec =
     returns-4
     cast-f
     add-kept
-    cast-kept
     flags-requires
     returns-5)

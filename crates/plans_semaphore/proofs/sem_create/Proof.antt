@@ -52,12 +52,6 @@ returns-5 c = rw (c .refused5 .ensures, holds (c .before .before .before .before
 cast-m : tie.Need-cast-m
 cast-m c = omega (arith, within-top _ _ _ (holds (c .before .before .before .before .before .before .is-semaphore .ensures) (c .before .before .before .before .before .if1 .left)))
 
-cast-n : tie.Need-cast-n
-cast-n c = omega (arith, within-top _ _ _ (holds (c .before .before .before .before .is-maximum .ensures) (c .before .before .before .if2 .left)))
-
-cast-v : tie.Need-cast-v
-cast-v c = omega (arith, within-top _ _ _ (holds (c .before .before .before .before .is-maximum .ensures) (c .before .before .before .if2 .left)))
-
 counts-requires : tie.Need-counts-requires
 counts-requires c κs = search needs
 
@@ -82,7 +76,5 @@ sem-create-spec =
     refused-requires-5
     returns-5
     cast-m
-    cast-n
-    cast-v
     counts-requires
     returns-6)

@@ -30,23 +30,26 @@ flag-row-requires c κs = search needs
 cast-row : tie.Need-cast-row Inv-loop μ-loop
 cast-row c = search needs
 
-array-read-flag-sound : tie.Need-array-read-flag-sound Inv-loop μ-loop
-array-read-flag-sound c = search needs
-
 mul-flag-sound : tie.Need-mul-flag-sound Inv-loop μ-loop
 mul-flag-sound c = search needs
 
-array-read-flag-sound-2 : tie.Need-array-read-flag-sound-2 Inv-loop μ-loop
-array-read-flag-sound-2 c = search needs
+array-read-flag-sound : tie.Need-array-read-flag-sound Inv-loop μ-loop
+array-read-flag-sound c = search needs
 
 mul-flag-sound-2 : tie.Need-mul-flag-sound-2 Inv-loop μ-loop
 mul-flag-sound-2 c = search needs
 
-array-read-flag-sound-3 : tie.Need-array-read-flag-sound-3 Inv-loop μ-loop
-array-read-flag-sound-3 c = omega (arith, c .flag-row .ensures, row-in (c .before .before .loop .f) (omega arith))
+array-read-flag-sound-2 : tie.Need-array-read-flag-sound-2 Inv-loop μ-loop
+array-read-flag-sound-2 c = search needs
 
 mul-flag-sound-3 : tie.Need-mul-flag-sound-3 Inv-loop μ-loop
 mul-flag-sound-3 c = search needs
+
+array-read-flag-sound-3 : tie.Need-array-read-flag-sound-3 Inv-loop μ-loop
+array-read-flag-sound-3 c = omega (arith, c .flag-row .ensures, row-in (c .before .before .loop .f) (omega arith))
+
+mul-flag-sound-4 : tie.Need-mul-flag-sound-4 Inv-loop μ-loop
+mul-flag-sound-4 c = search needs
 
 add-flag-sound : tie.Need-add-flag-sound Inv-loop μ-loop
 add-flag-sound c = search needs
@@ -80,12 +83,13 @@ flags-sound-spec =
     cast-at
     flag-row-requires
     cast-row
-    array-read-flag-sound
     mul-flag-sound
-    array-read-flag-sound-2
+    array-read-flag-sound
     mul-flag-sound-2
-    array-read-flag-sound-3
+    array-read-flag-sound-2
     mul-flag-sound-3
+    array-read-flag-sound-3
+    mul-flag-sound-4
     add-flag-sound
     array-read-flag-sound-4
     flag-sound-requires

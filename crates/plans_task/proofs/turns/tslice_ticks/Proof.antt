@@ -38,9 +38,6 @@ returns-3 c = rw (c .refused3 .ensures, holds (c .before .before .before .before
 cast-l : tie.Need-cast-l
 cast-l c = omega (arith, within-top _ _ _ (holds (c .before .before .before .before .is-priority .ensures) (c .before .before .before .if1 .left)))
 
-cast-v : tie.Need-cast-v
-cast-v c = omega (arith, leb-true (c .before .before .before .before .before .args .slice) 1000 (holds (c .before .before .is-slice .ensures) (c .before .if2 .left)))
-
 does-requires : tie.Need-does-requires
 does-requires c κs = search needs
 
@@ -61,6 +58,5 @@ tslice-ticks-spec =
     refused-requires-3
     returns-3
     cast-l
-    cast-v
     does-requires
     returns-4)

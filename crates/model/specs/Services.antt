@@ -1,0 +1,138 @@
+-- The table of services: each by its name in document 000, the context that it belongs to, what its numbers are, and the call that they
+-- make. A service's number is its row, from 1 on. The border, the line reader and the context test read this table.
+use Prim.Native.Nat.{ℕ, suc, _-_}
+use Prim.Native.String.{String}
+use mathlib.Core.Bool.{Bool, true, false}
+use mathlib.Core.List.{List, [], _∷_, _++_}
+use lib.ListN.{getD}
+use Rattle.model.specs.declared.Context.{Context}
+use Rattle.model.specs.declared.Context.the-variants.{T, I}
+use Rattle.model.specs.declared.Call.{Call}
+use Rattle.model.specs.declared.Call.the-variants.{TaskCreate, TaskDelete, TaskActivate, TaskIactivate, TaskExit, TaskTerminate, TaskSuspend, TaskResume, TaskSleep, TaskWakeup, TaskIwakeup, TaskReleaseWait, TaskIreleaseWait, TaskChangePriority}
+use Rattle.model.specs.declared.Call.the-variants.{SysTsliceTicks, TickIntProcessing, SemCreate, SemDelete, SemSignal, SemIsignal, SemAcquire, SemPolling, SemIpolling, Event}
+use Rattle.model.specs.declared.Event as Events
+use Rattle.model.specs.declared.Event.the-variants.{Create, Delete, Set, Iset, Clear, Iclear, Wait, WaitPolling, Iwait}
+
+-- what a number of a call is
+pub data Field : Type 0 where
+  aTask aPriority anOption aLevel aSlice aTimeout : Field
+  aSemaphore aStart aMaximum : Field
+  aFlag anAttribute someBits aPattern aMode : Field
+
+pub record Service : Type 0 where
+  pub name : String
+  pub context : Context
+  -- what its numbers a, b, c and d are, as far as it takes them
+  pub fields : List Field
+  -- the call that a, b, c and d make
+  pub call : ℕ → ℕ → ℕ → ℕ → Call
+
+abbrev row : String → Context → List Field → (ℕ → ℕ → ℕ → ℕ → Call) → Service
+row t c fs f = record { name = t; context = c; fields = fs; call = f }
+
+-- those on tasks
+unfoldable pub tasks : List Service
+tasks =
+    row "tn_task_create" T (aTask ∷ aPriority ∷ anOption ∷ []) (λ a b c d. TaskCreate a b c)
+    ∷ row "tn_task_delete" T (aTask ∷ []) (λ a b c d. TaskDelete a)
+    ∷ row "tn_task_activate" T (aTask ∷ []) (λ a b c d. TaskActivate a)
+    ∷ row "tn_task_iactivate" I (aTask ∷ []) (λ a b c d. TaskIactivate a)
+    ∷ row "tn_task_exit" T [] (λ a b c d. TaskExit)
+    ∷ row "tn_task_terminate" T (aTask ∷ []) (λ a b c d. TaskTerminate a)
+    ∷ row "tn_task_suspend" T (aTask ∷ []) (λ a b c d. TaskSuspend a)
+    ∷ row "tn_task_resume" T (aTask ∷ []) (λ a b c d. TaskResume a)
+    ∷ row "tn_task_sleep" T (aTimeout ∷ []) (λ a b c d. TaskSleep a)
+    ∷ row "tn_task_wakeup" T (aTask ∷ []) (λ a b c d. TaskWakeup a)
+    ∷ row "tn_task_iwakeup" I (aTask ∷ []) (λ a b c d. TaskIwakeup a)
+    ∷ row "tn_task_release_wait" T (aTask ∷ []) (λ a b c d. TaskReleaseWait a)
+    ∷ row "tn_task_irelease_wait" I (aTask ∷ []) (λ a b c d. TaskIreleaseWait a)
+    ∷ row "tn_task_change_priority" T (aTask ∷ aPriority ∷ []) (λ a b c d. TaskChangePriority a b)
+    ∷ []
+
+-- time slices and the tick
+unfoldable pub system : List Service
+system =
+    row "tn_sys_tslice_ticks" T (aLevel ∷ aSlice ∷ []) (λ a b c d. SysTsliceTicks a b)
+    ∷ row "tn_tick_int_processing" I [] (λ a b c d. TickIntProcessing)
+    ∷ []
+
+-- those on semaphores
+unfoldable pub semaphores : List Service
+semaphores =
+    row "tn_sem_create" T (aSemaphore ∷ aStart ∷ aMaximum ∷ []) (λ a b c d. SemCreate a b c)
+    ∷ row "tn_sem_delete" T (aSemaphore ∷ []) (λ a b c d. SemDelete a)
+    ∷ row "tn_sem_signal" T (aSemaphore ∷ []) (λ a b c d. SemSignal a)
+    ∷ row "tn_sem_isignal" I (aSemaphore ∷ []) (λ a b c d. SemIsignal a)
+    ∷ row "tn_sem_acquire" T (aSemaphore ∷ aTimeout ∷ []) (λ a b c d. SemAcquire a b)
+    ∷ row "tn_sem_polling" T (aSemaphore ∷ []) (λ a b c d. SemPolling a)
+    ∷ row "tn_sem_ipolling" I (aSemaphore ∷ []) (λ a b c d. SemIpolling a)
+    ∷ []
+
+-- those on event flags
+unfoldable pub events : List Service
+events =
+    row "tn_event_create" T (aFlag ∷ anAttribute ∷ someBits ∷ []) (λ a b c d. Event a (Create b c))
+    ∷ row "tn_event_delete" T (aFlag ∷ []) (λ a b c d. Event a Delete)
+    ∷ row "tn_event_set" T (aFlag ∷ aPattern ∷ []) (λ a b c d. Event a (Set b))
+    ∷ row "tn_event_iset" I (aFlag ∷ aPattern ∷ []) (λ a b c d. Event a (Iset b))
+    ∷ row "tn_event_clear" T (aFlag ∷ aPattern ∷ []) (λ a b c d. Event a (Clear b))
+    ∷ row "tn_event_iclear" I (aFlag ∷ aPattern ∷ []) (λ a b c d. Event a (Iclear b))
+    ∷ row "tn_event_wait" T (aFlag ∷ aPattern ∷ aMode ∷ aTimeout ∷ []) (λ a b c d. Event a (Wait b c d))
+    ∷ row "tn_event_wait_polling" T (aFlag ∷ aPattern ∷ aMode ∷ []) (λ a b c d. Event a (WaitPolling b c))
+    ∷ row "tn_event_iwait" I (aFlag ∷ aPattern ∷ aMode ∷ []) (λ a b c d. Event a (Iwait b c))
+    ∷ []
+
+unfoldable pub services : List Service
+services = tasks ++ (system ++ (semaphores ++ events))
+
+-- by its number, from 1 on; a number that names no service stands for the tick
+unfoldable pub service : ℕ → Service
+service k = getD services (k - 1) (row "" I [] (λ a b c d. TickIntProcessing))
+
+-- ---- which service a call is of
+abbrev pub eventNumber : Events.Event → ℕ
+eventNumber (Create a b) = 24
+eventNumber Delete = 25
+eventNumber (Set b) = 26
+eventNumber (Iset b) = 27
+eventNumber (Clear b) = 28
+eventNumber (Iclear b) = 29
+eventNumber (Wait p m d) = 30
+eventNumber (WaitPolling p m) = 31
+eventNumber (Iwait p m) = 32
+
+abbrev pub serviceNumber : Call → ℕ
+serviceNumber (TaskCreate t p o) = 1
+serviceNumber (TaskDelete t) = 2
+serviceNumber (TaskActivate t) = 3
+serviceNumber (TaskIactivate t) = 4
+serviceNumber TaskExit = 5
+serviceNumber (TaskTerminate t) = 6
+serviceNumber (TaskSuspend t) = 7
+serviceNumber (TaskResume t) = 8
+serviceNumber (TaskSleep d) = 9
+serviceNumber (TaskWakeup t) = 10
+serviceNumber (TaskIwakeup t) = 11
+serviceNumber (TaskReleaseWait t) = 12
+serviceNumber (TaskIreleaseWait t) = 13
+serviceNumber (TaskChangePriority t p) = 14
+serviceNumber (SysTsliceTicks l v) = 15
+serviceNumber TickIntProcessing = 16
+serviceNumber (SemCreate m n v) = 17
+serviceNumber (SemDelete m) = 18
+serviceNumber (SemSignal m) = 19
+serviceNumber (SemIsignal m) = 20
+serviceNumber (SemAcquire m d) = 21
+serviceNumber (SemPolling m) = 22
+serviceNumber (SemIpolling m) = 23
+serviceNumber (Event f e) = eventNumber e
+
+-- ---- the context test: a call comes from the context that its service belongs to
+abbrev pub same : Context → Context → Bool
+same T T = true
+same T I = false
+same I T = false
+same I I = true
+
+unfoldable pub isMine : Context → Call → Bool
+isMine c a = same c (service (serviceNumber a) .context)

@@ -1,0 +1,4 @@
+pub mod Laws
+pub mod Over
+pub mod Copied
+pub mod Same

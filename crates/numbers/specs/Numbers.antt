@@ -1,0 +1,38 @@
+-- One table of numbers for all that is no record and no queue: its parts lie one behind the other, and a store changes one place of
+-- one part.
+use mathlib.Core.Path.{_≡_}
+use mathlib.Core.Bool.{Bool, true, false, cond, _||_}
+use mathlib.Core.List.{List, [], _∷_}
+use Prim.Native.Nat.{ℕ, zero, suc, _+_}
+use lib.Dec.{ltb, leb}
+use lib.ListN.{getD, set, take, drop}
+use Rattle.model.specs.declared.Numbers.{Numbers}
+
+-- n places of a table, from place a on
+unfoldable pub part : ℕ → ℕ → List ℕ → List ℕ
+part a n ns = take n (drop a ns)
+
+-- the table after a store at place i of the part; past the part's end it changes nothing
+unfoldable pub stored : ℕ → ℕ → ℕ → ℕ → List ℕ → List ℕ
+stored a n i v ns = cond (ltb i n) (set ns (a + i) v) ns
+
+-- two parts that share no place
+abbrev pub apart : ℕ → ℕ → ℕ → ℕ → Bool
+apart a n b k = leb (a + n) b || leb (b + k) a
+
+-- n places of a table, from place a on, with zeros for those past its end
+unfoldable pub places : ℕ → ℕ → List ℕ → List ℕ
+places zero a ls = []
+places (suc n) a ls = getD ls a 0 ∷ places n (suc a) ls
+
+-- where each part lies: the numbers by name that a table holds
+abbrev pub heldIn : List ℕ → Numbers
+heldIn ns = record {
+  slices = part 0 31 ns;
+  charges = part 31 31 ns;
+  counts = part 62 13 ns;
+  maxima = part 75 13 ns;
+  attributes = part 88 9 ns;
+  bits = part 97 9 ns;
+  time = getD (part 106 1 ns) 0 0;
+}

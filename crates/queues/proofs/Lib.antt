@@ -1,0 +1,3 @@
+pub mod Bridge
+pub mod Copied
+pub mod Same

@@ -1,0 +1,3 @@
+pub mod Playing
+pub mod Scripts
+pub mod Walking

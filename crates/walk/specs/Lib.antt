@@ -1,0 +1,3 @@
+pub mod Script
+pub mod Rows
+pub mod Turn

@@ -1,0 +1,46 @@
+// One line of a list, played: read where it begins, stepped on the five tables. Whoever walks a list calls this in a loop and keeps
+// what its tool is for; Walking in proofs/ says of such a loop what was done and what is left.
+ghost use mathlib.Core.Path.{_≡_};
+ghost use Prim.Native.Nat.{_≤_};
+ghost use lib.ListN.{length, drop};
+ghost use Rattle.lines.specs.Lines.{lineOf};
+ghost use Rattle.effects.specs.Lent.{before, after};
+ghost use Rattle.walk.specs.Turn.{turned, turnOf};
+use kernel::Stepped;
+use lines::line::Line;
+use lines::line::read_line;
+
+// A line that reads: its answer, and where the next line begins.
+pub enum Turn {
+    Plays { answer: Stepped, next: usize },
+    Faults,
+}
+
+pub fn play_line(
+    bytes: &mut [u8; 250],
+    words: &mut [u32; 75],
+    levels: &mut [u8; 744],
+    waits: &mut [u8; 504],
+    numbers: &mut [u32; 107],
+    run: u8,
+    file: &[u8],
+    wide: bool,
+    at: usize,
+) -> Turn
+    requires { ⌜ at ≤ length (now file) ⌝ }
+    ensures { λ r. ⌜ turned r (after bytes words levels waits numbers) ≡ turnOf run at (before bytes words levels waits numbers) (lineOf wide (drop at (now (file .entry)))) ⌝ }
+{
+    let Line::Reads {
+        context,
+        call,
+        next,
+    } = read_line(&file[at..], wide)
+    else {
+        return Turn::Faults;
+    };
+    let answer = kernel::step_in(bytes, words, levels, waits, numbers, run, context, call);
+    Turn::Plays {
+        answer,
+        next: at + next,
+    }
+}
