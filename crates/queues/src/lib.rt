@@ -8,6 +8,8 @@ ghost use Rattle.model.specs.Row.{asQueue};
 ghost use Rattle.queues.specs.Queues.{queuesOf, places};
 use model::Queue;
 
+pub mod lent;
+
 // ---- one place; past the end it reads as 0, and a store changes nothing
 fn byte_at(ns: &[u8], i: usize) -> u8
     ensures { λ r. ⌜ r ≡ getD (now (ns .entry)) i 0 ⌝ }
