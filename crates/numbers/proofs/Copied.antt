@@ -11,7 +11,7 @@ use lib.ListN.{getD, set, length, take, drop, length-take, length-set, drop-of-l
 use lib.Seq.{take-suc, take-suc-set, take-all, drop-cons, sets, sets-eq, take-at, drop-at, take-length, length-take-le, take-set-le, drop-set-lt, drop-set-add, length-sets, getD-set-same}
 use borrow.Author.Tests.{leb-true}
 use Rattle.numbers.specs.Numbers.{part, stored, apart, places, heldIn}
-use Rattle.numbers.specs.declared.Numbers.{Numbers}
+use Rattle.model.specs.declared.Numbers.{Numbers}
 use Rattle.numbers.proofs.Laws.{part-same, part-other}
 use Rattle.numbers.proofs.Over.{room}
 

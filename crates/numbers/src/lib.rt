@@ -3,7 +3,8 @@
 ghost use mathlib.Core.Path.{_≡_};
 ghost use lib.ListN.{getD, set, length};
 ghost use lib.Seq.{sets};
-ghost use Rattle.numbers.specs.Numbers.{part, stored, places, Holds, heldIn};
+ghost use Rattle.numbers.specs.Numbers.{part, stored, places, heldIn};
+use model::Numbers;
 
 // ---- one place
 fn word_at(ns: &[u32], i: usize) -> u32
@@ -66,16 +67,6 @@ pub fn copy_part(xs: &mut [u32], ns: &[u32], a: u16)
 }
 
 // ---- all of them, as a caller holds them
-pub struct Numbers {
-    pub slices: [u32; 31],
-    pub charges: [u32; 31],
-    pub counts: [u32; 13],
-    pub maxima: [u32; 13],
-    pub attributes: [u32; 9],
-    pub bits: [u32; 9],
-    pub time: u32,
-}
-
 fn put31(ns: &mut [u32], a: u16, xs: [u32; 31])
     ensures { λ r. ⌜ (now (ns .exit) ≡ sets (now (ns .entry)) a xs) × (length xs ≡ 31) ⌝ }
 {
@@ -95,7 +86,7 @@ fn put9(ns: &mut [u32], a: u16, xs: [u32; 9])
 }
 
 pub fn spread(ns: &mut [u32; 107], x: Numbers)
-    ensures { λ r. ⌜ Holds (now (ns .exit)) x ⌝ }
+    ensures { λ r. ⌜ heldIn (now (ns .exit)) ≡ x ⌝ }
 {
     let n: &mut [u32] = ns;
     let slices = x.slices;
