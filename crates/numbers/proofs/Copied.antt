@@ -11,9 +11,8 @@ use lib.ListN.{getD, set, length, take, drop, length-take, length-set, drop-of-l
 use lib.Seq.{take-suc, take-suc-set, take-all, drop-cons, sets, sets-eq, take-at, drop-at, take-length, length-take-le, take-set-le, drop-set-lt, drop-set-add, length-sets, getD-set-same}
 use borrow.Author.Tests.{leb-true}
 use Rattle.numbers.specs.Numbers.{part, stored, apart, places, heldIn}
-use Rattle.numbers.specs.declared.Numbers.{Numbers}
-use Rattle.numbers.proofs.Laws.{part-same, part-other}
-use Rattle.numbers.proofs.Over.{room}
+use Rattle.model.specs.declared.Numbers.{Numbers}
+use Rattle.numbers.proofs.Laws.{part-same, part-other, part-long}
 
 -- ---- into the table
 pub put-on : (ns xs z : List ℕ) (a i : ℕ) → i < length xs → sets ns (a + i) (drop i xs) ≡ z → sets (set ns (a + i) (getD xs i 0)) (a + (i + 1)) (drop (i + 1) xs) ≡ z
@@ -106,7 +105,7 @@ spreads x n₀ n₁ n₂ n₃ n₄ n₅ n₆ n₇ h m₁ m₂ m₃ m₄ m₅ m�
     let q₅ : (u k : ℕ) → apart 88 9 u k ≡ true → part u k n₅ ≡ part u k n₄ = λ u k g. rw d₅ (part-beside (x .attributes) 9 e n₄ 88 u k g) in
     let q₆ : (u k : ℕ) → apart 97 9 u k ≡ true → part u k n₆ ≡ part u k n₅ = λ u k g. rw d₆ (part-beside (x .bits) 9 f n₅ 97 u k g) in
     let q₇ : (u k : ℕ) → apart 106 1 u k ≡ true → part u k n₇ ≡ part u k n₆ = λ u k g. rw d₇ (part-other 106 1 u k 0 (x .time) n₆ g) in
-    let t : getD (part 106 1 n₇) 0 0 ≡ x .time = rw (d₇, part-same 106 1 0 (x .time) n₆) (getD-set-same (part 106 1 n₆) 0 (x .time) 0 (room n₆ (omega (arith, h₆)))) in
+    let t : getD (part 106 1 n₇) 0 0 ≡ x .time = rw (d₇, part-same 106 1 0 (x .time) n₆) (getD-set-same (part 106 1 n₆) 0 (x .time) 0 (omega (arith, part-long 106 1 n₆ (omega (arith, h₆))))) in
     rw (
       q₇ 0 31 refl,
       q₆ 0 31 refl,

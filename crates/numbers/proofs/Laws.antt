@@ -6,7 +6,7 @@ use mathlib.Core.List.{List, [], _∷_}
 use Prim.Native.Nat.{ℕ, zero, suc, _+_, _-_, _≤_, _<_}
 use native.Mathlib.Omega.{arith}
 use lib.Dec.{ltb, leb}
-use lib.ListN.{getD, set, take, drop, length, length-take, List·getD-eq-default}
+use lib.ListN.{getD, set, take, drop, length, length-take, length-drop, List·getD-eq-default}
 use lib.Seq.{take-set-le, take-set-lt, drop-set-lt, drop-set-add, set-out, getD-take, getD-drop}
 use borrow.Author.Tests.{ltb-true, ltb-false, leb-true, leb-false, lt-ltb, le-ltb}
 use Rattle.numbers.specs.Numbers.{part, stored, apart}
@@ -14,6 +14,10 @@ use Rattle.numbers.specs.Numbers.{part, stored, apart}
 short : (a n : ℕ) (ns : List ℕ) → length (part a n ns) ≤ n
 unfolding part
 short a n ns = simp length-take (omega arith)
+
+pub part-long : (a n : ℕ) (ns : List ℕ) → a + n ≤ length ns → length (part a n ns) ≡ n
+unfolding part
+part-long a n ns h = simp (length-take, length-drop) (omega arith)
 
 -- ---- reading
 pub part-at : (a n i : ℕ) (ns : List ℕ) → i < n → getD (part a n ns) i 0 ≡ getD ns (a + i) 0

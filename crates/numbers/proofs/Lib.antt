@@ -1,4 +1,3 @@
 pub mod Laws
-pub mod Over
 pub mod Copied
 pub mod Same

@@ -5,7 +5,7 @@ use Prim.Native.Nat.{ℕ, zero, suc, _+_, _≤_, _<_}
 use native.Mathlib.Omega.{arith}
 use lib.ListN.{getD, length, take, drop, take-append-drop, drop-of-length-le}
 use lib.Seq.{drop-drop, drop-cons}
-use Rattle.numbers.specs.declared.Numbers.{Numbers}
+use Rattle.model.specs.declared.Numbers.{Numbers}
 use Rattle.numbers.specs.Numbers.{part, heldIn}
 use Rattle.numbers.proofs.Laws.{part-at}
 

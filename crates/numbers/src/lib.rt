@@ -1,9 +1,33 @@
-// One table of numbers, read and changed where it lies: a part is told by its first place and its length.
-// A place past the part's end reads as 0, and a store there changes nothing.
+// One table of numbers, read and changed where it lies: each part has a function that reads it and one that changes it.
+// A place past the part's end reads as 0, and a store there changes nothing. Rests on specs/Numbers, which says where each part lies.
 ghost use mathlib.Core.Path.{_≡_};
 ghost use lib.ListN.{getD, set, length};
 ghost use lib.Seq.{sets};
-ghost use Rattle.numbers.specs.Numbers.{part, stored, places, Holds, heldIn};
+ghost use Rattle.numbers.specs.Numbers.{part, stored, places, heldIn, noted};
+ghost use Rattle.model.specs.State.{ofSlices, ofCharges, ofCounts, ofMaxima, ofAttributes, ofBits, ofTime};
+use model::Numbers;
+
+// ---- where each part begins,
+const SLICES: u16 = 0;
+
+const CHARGES: u16 = 31;
+
+const COUNTS: u16 = 62;
+
+const MAXIMA: u16 = 75;
+
+const ATTRIBUTES: u16 = 88;
+
+const BITS: u16 = 97;
+
+const TIME: u16 = 106;
+
+// and how many places it has
+const LEVELS: u16 = 31;
+
+const SEMAPHORES: u16 = 13;
+
+const FLAGS: u16 = 9;
 
 // ---- one place
 fn word_at(ns: &[u32], i: usize) -> u32
@@ -25,7 +49,7 @@ fn put_word(ns: &mut [u32], i: usize, v: u32)
 }
 
 // ---- a place of a part
-pub fn number_at(ns: &[u32], a: u16, n: u16, i: usize) -> u32
+fn number_at(ns: &[u32], a: u16, n: u16, i: usize) -> u32
     ensures { λ r. ⌜ r ≡ getD (part a n (now (ns .entry))) i 0 ⌝ }
 {
     if (n as usize) <= i {
@@ -34,7 +58,7 @@ pub fn number_at(ns: &[u32], a: u16, n: u16, i: usize) -> u32
     word_at(ns, (a as usize) + i)
 }
 
-pub fn put_number(ns: &mut [u32], a: u16, n: u16, i: usize, v: u32)
+fn put_number(ns: &mut [u32], a: u16, n: u16, i: usize, v: u32)
     ensures { λ r. ⌜ now (ns .exit) ≡ stored a n i v (now (ns .entry)) ⌝ }
 {
     if (n as usize) <= i {
@@ -43,8 +67,96 @@ pub fn put_number(ns: &mut [u32], a: u16, n: u16, i: usize, v: u32)
     put_word(ns, (a as usize) + i, v);
 }
 
+// ---- each part: what stands in it,
+pub fn slice_at(ns: &[u32; 107], l: usize) -> u32
+    ensures { λ r. ⌜ r ≡ getD (heldIn (now (ns .entry)) .slices) l 0 ⌝ }
+{
+    number_at(ns, SLICES, LEVELS, l)
+}
+
+pub fn charge_at(ns: &[u32; 107], l: usize) -> u32
+    ensures { λ r. ⌜ r ≡ getD (heldIn (now (ns .entry)) .charges) l 0 ⌝ }
+{
+    number_at(ns, CHARGES, LEVELS, l)
+}
+
+pub fn count_at(ns: &[u32; 107], m: usize) -> u32
+    ensures { λ r. ⌜ r ≡ getD (heldIn (now (ns .entry)) .counts) m 0 ⌝ }
+{
+    number_at(ns, COUNTS, SEMAPHORES, m)
+}
+
+pub fn maximum_at(ns: &[u32; 107], m: usize) -> u32
+    ensures { λ r. ⌜ r ≡ getD (heldIn (now (ns .entry)) .maxima) m 0 ⌝ }
+{
+    number_at(ns, MAXIMA, SEMAPHORES, m)
+}
+
+pub fn attributes_at(ns: &[u32; 107], f: usize) -> u32
+    ensures { λ r. ⌜ r ≡ getD (heldIn (now (ns .entry)) .attributes) f 0 ⌝ }
+{
+    number_at(ns, ATTRIBUTES, FLAGS, f)
+}
+
+pub fn bits_at(ns: &[u32; 107], f: usize) -> u32
+    ensures { λ r. ⌜ r ≡ getD (heldIn (now (ns .entry)) .bits) f 0 ⌝ }
+{
+    number_at(ns, BITS, FLAGS, f)
+}
+
+pub fn time_in(ns: &[u32; 107]) -> u32
+    ensures { λ r. ⌜ r ≡ heldIn (now (ns .entry)) .time ⌝ }
+{
+    number_at(ns, TIME, 1, 0)
+}
+
+// and a change of it
+pub fn put_slice(ns: &mut [u32; 107], l: usize, v: u32)
+    ensures { λ r. ⌜ heldIn (now (ns .exit)) ≡ noted ofSlices l v (heldIn (now (ns .entry))) ⌝ }
+{
+    put_number(ns, SLICES, LEVELS, l, v);
+}
+
+pub fn put_charge(ns: &mut [u32; 107], l: usize, v: u32)
+    ensures { λ r. ⌜ heldIn (now (ns .exit)) ≡ noted ofCharges l v (heldIn (now (ns .entry))) ⌝ }
+{
+    put_number(ns, CHARGES, LEVELS, l, v);
+}
+
+pub fn put_count(ns: &mut [u32; 107], m: usize, v: u32)
+    ensures { λ r. ⌜ heldIn (now (ns .exit)) ≡ noted ofCounts m v (heldIn (now (ns .entry))) ⌝ }
+{
+    put_number(ns, COUNTS, SEMAPHORES, m, v);
+}
+
+pub fn put_maximum(ns: &mut [u32; 107], m: usize, v: u32)
+    ensures { λ r. ⌜ heldIn (now (ns .exit)) ≡ noted ofMaxima m v (heldIn (now (ns .entry))) ⌝ }
+{
+    put_number(ns, MAXIMA, SEMAPHORES, m, v);
+}
+
+pub fn put_attributes(ns: &mut [u32; 107], f: usize, v: u32)
+    ensures { λ r. ⌜ heldIn (now (ns .exit)) ≡ noted ofAttributes f v (heldIn (now (ns .entry))) ⌝ }
+{
+    put_number(ns, ATTRIBUTES, FLAGS, f, v);
+}
+
+pub fn put_bits(ns: &mut [u32; 107], f: usize, v: u32)
+    ensures { λ r. ⌜ heldIn (now (ns .exit)) ≡ noted ofBits f v (heldIn (now (ns .entry))) ⌝ }
+{
+    put_number(ns, BITS, FLAGS, f, v);
+}
+
+pub fn put_time(ns: &mut [u32; 107], v: u32)
+    ensures { λ r. ⌜ heldIn (now (ns .exit)) ≡ noted ofTime 0 v (heldIn (now (ns .entry))) ⌝ }
+{
+    // as a slice, which tells the prover how long it is
+    let n: &mut [u32] = ns;
+    put_number(n, TIME, 1, 0, v);
+}
+
 // ---- a whole part goes into the table,
-pub fn put_part(ns: &mut [u32], a: u16, xs: &[u32])
+fn put_part(ns: &mut [u32], a: u16, xs: &[u32])
     ensures { λ r. ⌜ now (ns .exit) ≡ sets (now (ns .entry)) a (now (xs .entry)) ⌝ }
 {
     let mut i: usize = 0;
@@ -55,7 +167,7 @@ pub fn put_part(ns: &mut [u32], a: u16, xs: &[u32])
 }
 
 // and comes out of it.
-pub fn copy_part(xs: &mut [u32], ns: &[u32], a: u16)
+fn copy_part(xs: &mut [u32], ns: &[u32], a: u16)
     ensures { λ r. ⌜ now (xs .exit) ≡ places (length (now (xs .entry))) a (now (ns .entry)) ⌝ }
 {
     let mut i: usize = 0;
@@ -66,16 +178,6 @@ pub fn copy_part(xs: &mut [u32], ns: &[u32], a: u16)
 }
 
 // ---- all of them, as a caller holds them
-pub struct Numbers {
-    pub slices: [u32; 31],
-    pub charges: [u32; 31],
-    pub counts: [u32; 13],
-    pub maxima: [u32; 13],
-    pub attributes: [u32; 9],
-    pub bits: [u32; 9],
-    pub time: u32,
-}
-
 fn put31(ns: &mut [u32], a: u16, xs: [u32; 31])
     ensures { λ r. ⌜ (now (ns .exit) ≡ sets (now (ns .entry)) a xs) × (length xs ≡ 31) ⌝ }
 {
@@ -95,7 +197,7 @@ fn put9(ns: &mut [u32], a: u16, xs: [u32; 9])
 }
 
 pub fn spread(ns: &mut [u32; 107], x: Numbers)
-    ensures { λ r. ⌜ Holds (now (ns .exit)) x ⌝ }
+    ensures { λ r. ⌜ heldIn (now (ns .exit)) ≡ x ⌝ }
 {
     let n: &mut [u32] = ns;
     let slices = x.slices;
@@ -104,13 +206,13 @@ pub fn spread(ns: &mut [u32; 107], x: Numbers)
     let maxima = x.maxima;
     let attributes = x.attributes;
     let bits = x.bits;
-    put31(n, 0, slices);
-    put31(n, 31, charges);
-    put13(n, 62, counts);
-    put13(n, 75, maxima);
-    put9(n, 88, attributes);
-    put9(n, 97, bits);
-    put_number(n, 106, 1, 0, x.time);
+    put31(n, SLICES, slices);
+    put31(n, CHARGES, charges);
+    put13(n, COUNTS, counts);
+    put13(n, MAXIMA, maxima);
+    put9(n, ATTRIBUTES, attributes);
+    put9(n, BITS, bits);
+    put_number(n, TIME, 1, 0, x.time);
 }
 
 fn part31(ns: &[u32], a: u16) -> [u32; 31]
@@ -141,13 +243,13 @@ pub fn gather(ns: &[u32; 107]) -> Numbers
     ensures { λ r. ⌜ r ≡ heldIn (now (ns .entry)) ⌝ }
 {
     let n: &[u32] = ns;
-    let slices = part31(n, 0);
-    let charges = part31(n, 31);
-    let counts = part13(n, 62);
-    let maxima = part13(n, 75);
-    let attributes = part9(n, 88);
-    let bits = part9(n, 97);
-    let time = number_at(n, 106, 1, 0);
+    let slices = part31(n, SLICES);
+    let charges = part31(n, CHARGES);
+    let counts = part13(n, COUNTS);
+    let maxima = part13(n, MAXIMA);
+    let attributes = part9(n, ATTRIBUTES);
+    let bits = part9(n, BITS);
+    let time = number_at(n, TIME, 1, 0);
     Numbers {
         slices,
         charges,

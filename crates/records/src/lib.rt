@@ -2,11 +2,31 @@
 // Each function is a definition of model/specs/Task, for every value; it rests on model alone.
 ghost use mathlib.Core.Path.{_≡_};
 ghost use Rattle.model.specs.Flag.{isMet, flagRow};
-ghost use Rattle.model.specs.Task.{noTask, levelOf, rowOf, dormant, activated, created, withPriority, withSuspended, withWakeups, withActivations, withRemaining, waiting, ended, told};
+ghost use Rattle.model.specs.Task.{noWait, asleep, onSemaphore, onFlag, noTask, levelOf, rowOf, dormant, activated, created, withPriority, withSuspended, withWakeups, withActivations, waiting, ended, told};
 use model::News;
 use model::Task;
+use model::Wait;
 
+// the timeout that never ends
 pub const ENDLESS: u32 = 4294967295;
+
+// what a task waits for
+pub const NOTHING: u8 = 0;
+
+pub const SLEEP: u8 = 1;
+
+pub const SEMAPHORE: u8 = 2;
+
+pub const FLAG: u8 = 3;
+
+// how a wait ended, as a record keeps it: a code without its sign
+pub const SERVED: u8 = 0;
+
+pub const TIMEOUT: u8 = 4;
+
+pub const DLT: u8 = 10;
+
+pub const RELEASED: u8 = 11;
 
 // ---- the queues that list it; 0 for none
 pub fn level_of(x: Task) -> u8
@@ -14,14 +34,14 @@ pub fn level_of(x: Task) -> u8
 {
     let active = x.active;
     let suspended = x.suspended;
-    let wait = x.wait;
+    let kind = x.wait.kind;
     if active == 0 {
         return 0;
     }
     if suspended != 0 {
         return 0;
     }
-    if wait != 0 {
+    if kind != NOTHING {
         return 0;
     }
     x.priority
@@ -43,56 +63,88 @@ pub fn flag_row(f: u8) -> u8
 pub fn row_of(x: Task) -> u8
     ensures { λ r. ⌜ r ≡ rowOf x ⌝ }
 {
-    let wait = x.wait;
-    let object = x.object;
-    if wait == 2 {
+    let kind = x.wait.kind;
+    let object = x.wait.object;
+    if kind == SEMAPHORE {
         return object;
     }
-    if wait == 3 {
+    if kind == FLAG {
         return flag_row(object);
     }
     0
 }
 
-// ---- records
-pub fn no_task() -> Task
-    ensures { λ r. ⌜ r ≡ noTask ⌝ }
+// ---- waits: for what, on which object, for how many ticks at most, and what they ask
+pub fn no_wait() -> Wait
+    ensures { λ r. ⌜ r ≡ noWait ⌝ }
 {
-    Task {
-        base: 0,
-        priority: 0,
-        active: 0,
-        suspended: 0,
-        wait: 0,
+    Wait {
+        kind: NOTHING,
         object: 0,
-        wakeups: 0,
-        activations: 0,
-        code: 0,
         mode: 0,
         remaining: 0,
         pattern: 0,
-        handed: 0,
     }
 }
 
+pub fn asleep(timeout: u32) -> Wait
+    ensures { λ r. ⌜ r ≡ asleep timeout ⌝ }
+{
+    Wait {
+        kind: SLEEP,
+        object: 0,
+        mode: 0,
+        remaining: timeout,
+        pattern: 0,
+    }
+}
+
+pub fn on_semaphore(semaphore: u8, timeout: u32) -> Wait
+    ensures { λ r. ⌜ r ≡ onSemaphore semaphore timeout ⌝ }
+{
+    Wait {
+        kind: SEMAPHORE,
+        object: semaphore,
+        mode: 0,
+        remaining: timeout,
+        pattern: 0,
+    }
+}
+
+pub fn on_flag(flag: u8, pattern: u32, mode: u8, timeout: u32) -> Wait
+    ensures { λ r. ⌜ r ≡ onFlag flag pattern mode timeout ⌝ }
+{
+    Wait {
+        kind: FLAG,
+        object: flag,
+        mode: mode,
+        remaining: timeout,
+        pattern: pattern,
+    }
+}
+
+// ---- records
 pub fn dormant(p: u8) -> Task
     ensures { λ r. ⌜ r ≡ dormant p ⌝ }
 {
+    let none = no_wait();
     Task {
         base: p,
         priority: p,
         active: 0,
         suspended: 0,
-        wait: 0,
-        object: 0,
         wakeups: 0,
         activations: 0,
-        code: 0,
-        mode: 0,
-        remaining: 0,
-        pattern: 0,
+        code: SERVED,
+        wait: none,
         handed: 0,
     }
+}
+
+pub fn no_task() -> Task
+    ensures { λ r. ⌜ r ≡ noTask ⌝ }
+{
+    dormant(0)
 }
 
 pub fn activated(x: Task) -> Task
@@ -144,16 +196,12 @@ pub fn with_activations(x: Task, n: u8) -> Task
     r
 }
 
-pub fn waiting(x: Task, wait: u8, object: u8, timeout: u32, pattern: u32, mode: u8) -> Task
-    ensures { λ r. ⌜ r ≡ waiting x wait object timeout pattern mode ⌝ }
+pub fn waiting(x: Task, wait: Wait) -> Task
+    ensures { λ r. ⌜ r ≡ waiting x wait ⌝ }
 {
     let mut r = x;
     r.wait = wait;
-    r.object = object;
-    r.code = 0;
-    r.mode = mode;
-    r.remaining = timeout;
-    r.pattern = pattern;
+    r.code = SERVED;
     r.handed = 0;
     r
 }
@@ -161,13 +209,10 @@ pub fn waiting(x: Task, wait: u8, object: u8, timeout: u32, pattern: u32, mode: 
 pub fn ended(x: Task, code: u8, bits: u32) -> Task
     ensures { λ r. ⌜ r ≡ ended x code bits ⌝ }
 {
+    let none = no_wait();
     let mut r = x;
-    r.wait = 0;
-    r.object = 0;
+    r.wait = none;
     r.code = code;
-    r.mode = 0;
-    r.remaining = 0;
-    r.pattern = 0;
     r.handed = bits;
     r
 }
@@ -188,11 +233,11 @@ pub fn told(news: News, x: Task) -> Task
     ensures { λ r. ⌜ r ≡ told news x ⌝ }
 {
     match news {
-        News::Deleted => ended(x, 10, 0),
+        News::Deleted => ended(x, DLT, 0),
         News::Bits { bits } => {
-            let met = is_met(x.pattern, x.mode as u32, bits);
+            let met = is_met(x.wait.pattern, x.wait.mode as u32, bits);
             if met {
-                return ended(x, 0, bits);
+                return ended(x, SERVED, bits);
             }
             x
         }

@@ -64,26 +64,25 @@ stores-same (v ∷ vs) l i c (suc k) h g =
 
 -- a record's ten bytes and three words, as the tables hold them
 abbrev bytesOf : Task → List ℕ
-bytesOf x = x .base ∷ x .priority ∷ x .active ∷ x .suspended ∷ x .wait ∷ x .object ∷ x .wakeups ∷ x .activations ∷ x .code ∷ x .mode ∷ []
+bytesOf x = x .base ∷ x .priority ∷ x .active ∷ x .suspended ∷ x .wakeups ∷ x .activations ∷ x .code ∷ x .wait .kind ∷ x .wait .object ∷ x .wait .mode ∷ []
 
 abbrev wordsOf : Task → List ℕ
-wordsOf x = x .remaining ∷ x .pattern ∷ x .handed ∷ []
+wordsOf x = x .wait .remaining ∷ x .wait .pattern ∷ x .handed ∷ []
 
 -- the bytes with a record stored from place i on, and the words with that of task t
 abbrev pub bytesWith : List ℕ → ℕ → Task → List ℕ
 bytesWith b i x =
-    set (set (set (set (set (set (set (set (set (set b i (x .base)) (i + 1) (x .priority)) (i + 2) (x .active)) (i + 3) (x .suspended)) (i + 4) (x .wait)) (i + 5) (x .object)) (i + 6) (x .wakeups)) (i + 7) (x .activations)) (i + 8) (x .code)) (i + 9) (x .mode)
+    set (set (set (set (set (set (set (set (set (set b i (x .base)) (i + 1) (x .priority)) (i + 2) (x .active)) (i + 3) (x .suspended)) (i + 4) (x .wakeups)) (i + 5) (x .activations)) (i + 6) (x .code)) (i + 7) (x .wait .kind)) (i + 8) (x .wait .object)) (i + 9) (x .wait .mode)
 
 abbrev pub wordsWith : List ℕ → ℕ → Task → List ℕ
-wordsWith w t x = set (set (set w t (x .remaining)) (t + 25) (x .pattern)) (t + 50) (x .handed)
+wordsWith w t x = set (set (set w t (x .wait .remaining)) (t + 25) (x .wait .pattern)) (t + 50) (x .handed)
 
 bytes-stores : (b : List ℕ) (i : ℕ) (x : Task) → bytesWith b i x ≡ stores b i 0 (bytesOf x)
 unfolding stores
-bytes-stores b i x = ap (λ (k : ℕ). stores (set b k (x .base)) i 1 (x .priority ∷ x .active ∷ x .suspended ∷ x .wait ∷ x .object ∷ x .wakeups ∷ x .activations ∷ x .code ∷ x .mode ∷ [])) (sym (add-zero i))
+bytes-stores b i x = ap (λ (k : ℕ). stores (set b k (x .base)) i 1 (x .priority ∷ x .active ∷ x .suspended ∷ x .wakeups ∷ x .activations ∷ x .code ∷ x .wait .kind ∷ x .wait .object ∷ x .wait .mode ∷ [])) (sym (add-zero i))
 
 -- ---- a record by its places
 byte-at : (b w : List ℕ) (t c : ℕ) → c < 10 → getD b (t * 10 + c) 0 ≡ getD (bytesOf (recordAt b w t)) c 0
-unfolding recordAt
 byte-at b w t zero h = rw add-zero
 byte-at b w t (suc zero) h = refl
 byte-at b w t (suc (suc zero)) h = refl
@@ -97,7 +96,6 @@ byte-at b w t (suc (suc (suc (suc (suc (suc (suc (suc (suc zero))))))))) h = ref
 byte-at b w t (suc (suc (suc (suc (suc (suc (suc (suc (suc (suc c)))))))))) h = absurd (omega arith)
 
 word-at : (b w : List ℕ) (t c : ℕ) → c < 3 → getD w (t + c * 25) 0 ≡ getD (wordsOf (recordAt b w t)) c 0
-unfolding recordAt
 word-at b w t zero h = rw add-zero
 word-at b w t (suc zero) h = refl
 word-at b w t (suc (suc zero)) h = refl
@@ -105,23 +103,24 @@ word-at b w t (suc (suc (suc c))) h = absurd (omega arith)
 
 by-places : (b w : List ℕ) (t : ℕ) (x : Task) → ((c : ℕ) → c < 10 → getD b (t * 10 + c) 0 ≡ getD (bytesOf x) c 0) → ((c : ℕ) → c < 3 → getD w (t + c * 25) 0 ≡ getD (wordsOf x) c 0)
     → recordAt b w t ≡ x
-unfolding recordAt
 by-places b w t x p q =
     let p₀ : getD b (t * 10) 0 ≡ x .base = rw add-zero at (p 0 (omega arith)) in
-    let q₀ : getD w t 0 ≡ x .remaining = rw add-zero at (q 0 (omega arith)) in
+    let q₀ : getD w t 0 ≡ x .wait .remaining = rw add-zero at (q 0 (omega arith)) in
     λ k. record {
       base = p₀ k;
       priority = p 1 (omega arith) k;
       active = p 2 (omega arith) k;
       suspended = p 3 (omega arith) k;
-      wait = p 4 (omega arith) k;
-      object = p 5 (omega arith) k;
-      wakeups = p 6 (omega arith) k;
-      activations = p 7 (omega arith) k;
-      code = p 8 (omega arith) k;
-      mode = p 9 (omega arith) k;
-      remaining = q₀ k;
-      pattern = q 1 (omega arith) k;
+      wakeups = p 4 (omega arith) k;
+      activations = p 5 (omega arith) k;
+      code = p 6 (omega arith) k;
+      wait = record {
+        kind = p 7 (omega arith) k;
+        object = p 8 (omega arith) k;
+        mode = p 9 (omega arith) k;
+        remaining = q₀ k;
+        pattern = q 1 (omega arith) k;
+      };
       handed = q 2 (omega arith) k;
     }
 
@@ -137,20 +136,20 @@ replaced b w b′ w′ t x h e f = all-read b′ w′ (set (tasksOf b w) t x) (l
 word-here : (w : List ℕ) (t : ℕ) (x : Task) → length w ≡ 75 → t < 25 → (c : ℕ) → c < 3 → getD (wordsWith w t x) (t + c * 25) 0 ≡ getD (wordsOf x) c 0
 word-here w t x n h zero g =
     rw add-zero
-    (getD-set-other (set (set w t (x .remaining)) (t + 25) (x .pattern)) (t + 50) t (x .handed) 0 (λ e. omega arith)
-    ∙ getD-set-other (set w t (x .remaining)) (t + 25) t (x .pattern) 0 (λ e. omega arith)
-    ∙ getD-set-same w t (x .remaining) 0 (omega arith))
+    (getD-set-other (set (set w t (x .wait .remaining)) (t + 25) (x .wait .pattern)) (t + 50) t (x .handed) 0 (λ e. omega arith)
+    ∙ getD-set-other (set w t (x .wait .remaining)) (t + 25) t (x .wait .pattern) 0 (λ e. omega arith)
+    ∙ getD-set-same w t (x .wait .remaining) 0 (omega arith))
 word-here w t x n h (suc zero) g =
-    getD-set-other (set (set w t (x .remaining)) (t + 25) (x .pattern)) (t + 50) (t + 25) (x .handed) 0 (λ e. omega arith)
-    ∙ getD-set-same (set w t (x .remaining)) (t + 25) (x .pattern) 0 (rw length-set (omega arith))
-word-here w t x n h (suc (suc zero)) g = getD-set-same (set (set w t (x .remaining)) (t + 25) (x .pattern)) (t + 50) (x .handed) 0 (simp length-set (omega arith))
+    getD-set-other (set (set w t (x .wait .remaining)) (t + 25) (x .wait .pattern)) (t + 50) (t + 25) (x .handed) 0 (λ e. omega arith)
+    ∙ getD-set-same (set w t (x .wait .remaining)) (t + 25) (x .wait .pattern) 0 (rw length-set (omega arith))
+word-here w t x n h (suc (suc zero)) g = getD-set-same (set (set w t (x .wait .remaining)) (t + 25) (x .wait .pattern)) (t + 50) (x .handed) 0 (simp length-set (omega arith))
 word-here w t x n h (suc (suc (suc c))) g = absurd (omega arith)
 
 word-there : (w : List ℕ) (t : ℕ) (x : Task) → t < 25 → (i : ℕ) → i < 25 → i ≢ t → (c : ℕ) → getD (wordsWith w t x) (i + c * 25) 0 ≡ getD w (i + c * 25) 0
 word-there w t x h i k a c =
-    getD-set-other (set (set w t (x .remaining)) (t + 25) (x .pattern)) (t + 50) (i + c * 25) (x .handed) 0 (λ e. a (omega arith))
-    ∙ getD-set-other (set w t (x .remaining)) (t + 25) (i + c * 25) (x .pattern) 0 (λ e. a (omega arith))
-    ∙ getD-set-other w t (i + c * 25) (x .remaining) 0 (λ e. a (omega arith))
+    getD-set-other (set (set w t (x .wait .remaining)) (t + 25) (x .wait .pattern)) (t + 50) (i + c * 25) (x .handed) 0 (λ e. a (omega arith))
+    ∙ getD-set-other (set w t (x .wait .remaining)) (t + 25) (i + c * 25) (x .wait .pattern) 0 (λ e. a (omega arith))
+    ∙ getD-set-other w t (i + c * 25) (x .wait .remaining) 0 (λ e. a (omega arith))
 
 pub wrote : (b w : List ℕ) (t : ℕ) (x : Task) → length b ≡ 250 → length w ≡ 75 → t < 25 → tasksOf (bytesWith b (t * 10) x) (wordsWith w t x) ≡ set (tasksOf b w) t x
 wrote b w t x m n h = rw (bytes-stores b (t * 10) x) (replaced b w b′ w′ t x h here there)
@@ -171,9 +170,8 @@ wrote b w t x m n h = rw (bytes-stores b (t * 10) x) (replaced b w b′ w′ t x
         (λ c g. word-there w t x h i k a c ∙ word-at b w i c g)
 
 -- ---- one word is stored: a timeout falls
-pub left-at : (b w : List ℕ) (t : ℕ) → t < 25 → getD w t 0 ≡ getD (tasksOf b w) t noTask .remaining
-unfolding recordAt
-left-at b w t h = ap (λ (x : Task). x .remaining) (sym (read b w t h))
+pub left-at : (b w : List ℕ) (t : ℕ) → t < 25 → getD w t 0 ≡ getD (tasksOf b w) t noTask .wait .remaining
+left-at b w t h = ap (λ (x : Task). x .wait .remaining) (sym (read b w t h))
 
 pub fell : (b w : List ℕ) (t v : ℕ) → t < 25 → length w ≡ 75 → tasksOf b (set w t v) ≡ set (tasksOf b w) t (withRemaining (getD (tasksOf b w) t noTask) v)
 fell b w t v h n = rw (read b w t h) (replaced b w b w′ t (withRemaining (recordAt b w t) v) h here there)

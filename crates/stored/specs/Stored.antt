@@ -6,7 +6,7 @@ use lib.ListN.{getD}
 use Rattle.model.specs.declared.Task.{Task}
 
 -- the record that the tables hold of task t
-unfoldable pub recordAt : List ℕ → List ℕ → ℕ → Task
+abbrev pub recordAt : List ℕ → List ℕ → ℕ → Task
 recordAt bytes words t = record {
   base = getD bytes (t * 10) 0;
   priority = getD bytes (t * 10 + 1) 0;

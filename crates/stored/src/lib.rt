@@ -3,8 +3,10 @@
 ghost use mathlib.Core.Path.{_≡_};
 ghost use lib.ListN.{getD, set};
 ghost use Rattle.model.specs.Task.{noTask, withRemaining};
-ghost use Rattle.stored.specs.Stored.{tasksOf};
+ghost use Prim.Native.Nat.{_<_, _*_};
+ghost use Rattle.stored.specs.Stored.{recordAt, tasksOf};
 use model::Task;
+use model::Wait;
 
 // The record of a task; a number that names none has zeros.
 pub fn record_at(bytes: &[u8; 250], words: &[u32; 75], t: usize) -> Task
@@ -13,20 +15,30 @@ pub fn record_at(bytes: &[u8; 250], words: &[u32; 75], t: usize) -> Task
     if 24 < t {
         return records::no_task();
     }
+    record_in(bytes, words, t)
+}
+
+fn record_in(bytes: &[u8; 250], words: &[u32; 75], t: usize) -> Task
+    requires { ⌜ t < 25 ⌝ }
+    ensures { λ r. ⌜ r ≡ recordAt (now (bytes .entry)) (now (words .entry)) t ⌝ }
+{
     let i = t * 10;
+    let wait = Wait {
+        kind: bytes[i + 7],
+        object: bytes[i + 8],
+        mode: bytes[i + 9],
+        remaining: words[t],
+        pattern: words[t + 25],
+    };
     Task {
         base: bytes[i],
         priority: bytes[i + 1],
         active: bytes[i + 2],
         suspended: bytes[i + 3],
-        wait: bytes[i + 4],
-        object: bytes[i + 5],
-        wakeups: bytes[i + 6],
-        activations: bytes[i + 7],
-        code: bytes[i + 8],
-        mode: bytes[i + 9],
-        remaining: words[t],
-        pattern: words[t + 25],
+        wakeups: bytes[i + 4],
+        activations: bytes[i + 5],
+        code: bytes[i + 6],
+        wait,
         handed: words[t + 50],
     }
 }
@@ -46,14 +58,14 @@ pub fn put_record(bytes: &mut [u8; 250], words: &mut [u32; 75], t: usize, x: Tas
     b[i + 1] = x.priority;
     b[i + 2] = x.active;
     b[i + 3] = x.suspended;
-    b[i + 4] = x.wait;
-    b[i + 5] = x.object;
-    b[i + 6] = x.wakeups;
-    b[i + 7] = x.activations;
-    b[i + 8] = x.code;
-    b[i + 9] = x.mode;
-    w[t] = x.remaining;
-    w[t + 25] = x.pattern;
+    b[i + 4] = x.wakeups;
+    b[i + 5] = x.activations;
+    b[i + 6] = x.code;
+    b[i + 7] = x.wait.kind;
+    b[i + 8] = x.wait.object;
+    b[i + 9] = x.wait.mode;
+    w[t] = x.wait.remaining;
+    w[t + 25] = x.wait.pattern;
     w[t + 50] = x.handed;
 }
 
