@@ -2,6 +2,7 @@
 // Each function is a definition of model/specs/Service, for every value; it rests on checks and records.
 ghost use mathlib.Core.Path.{_≡_};
 ghost use Rattle.model.specs.Service.{semCreate, semDelete, signal, acquire, polling};
+use checks::Gate;
 use checks::checked;
 use checks::counts;
 use checks::does;
@@ -11,21 +12,24 @@ use checks::is_timeout;
 use checks::moves;
 use checks::pending;
 use checks::refused;
-use checks::Gate;
 use model::Code;
 use model::Effect;
 use model::Plan;
 use model::Semaphore;
 use model::Task;
+use records::SERVED;
 use records::ended;
 use records::on_semaphore;
 use records::waiting;
-use records::SERVED;
 
 pub fn sem_create(mine: bool, semaphore: u32, start: u32, maximum: u32, x: Semaphore) -> Plan
     ensures { λ r. ⌜ r ≡ semCreate mine semaphore start maximum x ⌝ }
 {
-    let gate = checked(is_semaphore(semaphore) & (is_maximum(maximum) & ((start <= maximum) & (x.maximum == 0))), true, mine);
+    let gate = checked(
+        is_semaphore(semaphore) & (is_maximum(maximum) & ((start <= maximum) & (x.maximum == 0))),
+        true,
+        mine,
+    );
     if let Gate::Refuses { code } = gate {
         return refused(code);
     }
@@ -69,7 +73,11 @@ pub fn signal(mine: bool, semaphore: u32, k: Task, x: Semaphore) -> Plan
 pub fn acquire(mine: bool, semaphore: u32, timeout: u32, run: u8, k: Task, x: Semaphore) -> Plan
     ensures { λ r. ⌜ r ≡ acquire mine semaphore timeout run k x ⌝ }
 {
-    let gate = checked(is_semaphore(semaphore) & is_timeout(timeout), x.maximum != 0, mine);
+    let gate = checked(
+        is_semaphore(semaphore) & is_timeout(timeout),
+        x.maximum != 0,
+        mine,
+    );
     if let Gate::Refuses { code } = gate {
         return refused(code);
     }
