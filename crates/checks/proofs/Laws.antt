@@ -1,20 +1,43 @@
--- What a service reads off a test that a function made: the test's value, and from a range its top.
--- It rests on the definition of `within` alone.
-use mathlib.Core.Bool.{Bool, true, false, not, _&&_}
-use mathlib.Core.Path.{_≡_, sym, _∙_}
+-- What a service reads off the checks that every call has in common, and off a range: the plan so far, the tests, the range's top.
+-- It rests on the definitions of `gate` and `within` alone.
+use mathlib.Core.Bool.{Bool, true, false, cond, _&&_}
+use mathlib.Core.Path.{_≡_}
 use Prim.Native.Nat.{ℕ, _≤_}
 use lib.Dec.{leb}
-use borrow.Author.Tests.{leb-true, not-true, not-false}
-use Rattle.model.specs.Plan.{within}
+use borrow.Author.Tests.{leb-true}
+use Rattle.model.specs.declared.Plan.{Plan}
+use Rattle.model.specs.declared.Code.{Code}
+use Rattle.model.specs.Plan.{within, refused, checked}
+use Rattle.checks.specs.declared.Gate.{Gate}
+use Rattle.checks.specs.declared.Gate.the-variants.{Passes, Refuses}
+use Rattle.checks.specs.Gate.{gate}
 
--- r is what the function answered for the test b
-pub fails : {r b : Bool} → r ≡ b → not r ≡ true → b ≡ false
-fails {r} e h = sym e ∙ not-true r h
+-- ---- g is what `checked` answered
+pub refuses : (right there mine : Bool) {g : Gate} {v : Code} → g ≡ gate right there mine → g ≡ Refuses v → (own : Plan) → checked right there mine own ≡ refused v
+unfolding gate
+refuses false there mine e h own = cc
+refuses true false mine e h own = cc
+refuses true true false e h own = cc
+refuses true true true e h own = cc
 
-pub holds : {r b : Bool} → r ≡ b → not r ≡ false → b ≡ true
-holds {r} e h = sym e ∙ not-false r h
+pub passes : (right there mine : Bool) {g : Gate} → g ≡ gate right there mine → g ≡ Passes → (own : Plan) → checked right there mine own ≡ own
+unfolding gate
+passes false there mine e h own = cc
+passes true false mine e h own = cc
+passes true true false e h own = cc
+passes true true true e h own = cc
 
-and-right : (a b : Bool) → a && b ≡ true → b ≡ true
+pub is-right : (right there mine : Bool) {g : Gate} → g ≡ gate right there mine → g ≡ Passes → right ≡ true
+unfolding gate
+is-right false there mine e h = cc
+is-right true there mine e h = cc
+
+-- ---- ranges
+pub and-left : (a b : Bool) → a && b ≡ true → a ≡ true
+and-left false b h = h
+and-left true b h = cc
+
+pub and-right : (a b : Bool) → a && b ≡ true → b ≡ true
 and-right false b h = cc
 and-right true b h = h
 

@@ -1,39 +1,19 @@
-// What every service's plan begins with: the contexts, the ranges of a call's numbers, and the plans that refuse and accept.
-// Each function is a definition of model/specs/Plan or Call, for every value; it rests on model, and on records for the timeout that never ends.
+// What every service's plan begins with: the ranges of a call's numbers, the order of checks, and the plans that refuse and accept.
+// Each function is a definition of model/specs/Plan or of specs/Gate, for every value; it rests on model, and on records for the timeout that never ends.
 ghost use mathlib.Core.Path.{_≡_};
 ghost use Rattle.model.specs.declared.Code.the-variants.{Pending};
 ghost use Rattle.model.specs.declared.Effect.the-variants.{Moves, Counts, Flags};
 ghost use Rattle.model.specs.Flag.{isAttributes};
 ghost use Rattle.model.specs.Plan.{within, isTask, isPriority, isSemaphore, isMaximum, isTimeout, isSlice, isFlag, does, answers, gives, refused};
-ghost use Rattle.model.specs.Call.{inT, inI};
+ghost use Rattle.checks.specs.Gate.{gate};
 use model::Code;
-use model::Context;
 use model::Effect;
 use model::Plan;
 use model::Task;
 use records::ENDLESS;
 
-// ---- contexts
-pub fn in_t(c: Context) -> bool
-    ensures { λ r. ⌜ r ≡ inT c ⌝ }
-{
-    match c {
-        Context::T => true,
-        Context::I => false,
-    }
-}
-
-pub fn in_i(c: Context) -> bool
-    ensures { λ r. ⌜ r ≡ inI c ⌝ }
-{
-    match c {
-        Context::T => false,
-        Context::I => true,
-    }
-}
-
 // ---- ranges
-pub fn within(low: u32, n: u32, top: u32) -> bool
+fn within(low: u32, n: u32, top: u32) -> bool
     ensures { λ r. ⌜ r ≡ within low n top ⌝ }
 {
     if low <= n {
@@ -90,6 +70,33 @@ pub fn is_attributes(n: u32) -> bool
     (n == 0) | ((n == 1) | (n == 3))
 }
 
+// ---- the order of checks
+// What the checks that every call has in common come to.
+pub enum Gate {
+    Passes,
+    Refuses { code: Code },
+}
+
+// Numbers out of range or an existing object, a missing object, the context; then the call's own tests.
+pub fn checked(right: bool, there: bool, mine: bool) -> Gate
+    ensures { λ r. ⌜ r ≡ gate right there mine ⌝ }
+{
+    if right {
+        if there {
+            if mine {
+                return Gate::Passes;
+            }
+            return Gate::Refuses {
+                code: Code::WContext,
+            };
+        }
+        return Gate::Refuses { code: Code::NoExs };
+    }
+    Gate::Refuses {
+        code: Code::WrongParam,
+    }
+}
+
 // ---- plans
 pub fn refused(code: Code) -> Plan
     ensures { λ r. ⌜ r ≡ refused code ⌝ }
@@ -111,7 +118,7 @@ pub fn does(effect: Effect) -> Plan
     }
 }
 
-pub fn answers(code: Code, effect: Effect) -> Plan
+fn answers(code: Code, effect: Effect) -> Plan
     ensures { λ r. ⌜ r ≡ answers code effect ⌝ }
 {
     Plan {

@@ -8,13 +8,14 @@ use Prim.Native.Nat.{ℕ, _+_, _≤_, _<_}
 use native.Mathlib.Omega.{arith}
 use lib.Dec.{T}
 use lib.ListN.{length, getD, set, length-set, List·getD-eq-default}
-use lib.Seq.{getD-set-same, getD-set-other, set-out}
+use lib.Seq.{getD-set-same, getD-set-other, set-out, set-getD}
 use Rattle.model.specs.declared.Task.{Task}
+use Rattle.model.specs.declared.Numbers.{Numbers}
 use Rattle.model.specs.declared.State.{State}
 use Rattle.model.specs.Flag.{areKept, isSingle, isMet}
 use Rattle.model.specs.Task.{noTask, levelOf, rowOf}
 use Rattle.model.specs.State.{task, slice, count, maximum, attribute, bitsOf, moved, counted, flagged, sliced, withCharge, rotated, withTime}
-use Rattle.model.specs.Sound.{SoundTask, Sound}
+use Rattle.model.specs.Sound.{SoundTask, SoundLevels, SoundSemaphores, SoundFlags, Sound}
 use Rattle.laws.proofs.Number.{same?, below?}
 use Rattle.kept.proofs.Listed.{lists-relisted, lists-turned}
 
@@ -38,7 +39,7 @@ no-task s k t h = List·getD-eq-default (s .tasks) noTask (omega (arith, k .task
 
 pub task-in : (key : Task → ℕ) → key noTask ≡ 0 → (s : State) → Sound s → (t : ℕ) → 1 ≤ key (task s t) → (1 ≤ t) × (t ≤ 24)
 task-in key z s k t h =
-    let low : t ≡ 0 → ⊥ = λ e. omega (arith, ap (λ u. key (task s u)) e ∙ ap key (k .origin .0) ∙ z) in
+    let low : t ≡ 0 → ⊥ = λ e. omega (arith, ap (λ u. key (task s u)) e ∙ ap key (k .nobody) ∙ z) in
     let top : 24 < t → ⊥ = λ out. omega (arith, ap key (no-task s k t out) ∙ z) in
     (omega arith, omega arith)
 
@@ -47,7 +48,7 @@ task-in key z s k t h =
 -- on SINGLE alone
 pub record MayWait (s : State) (t : ℕ) (x : Task) : Type 0 where
   pub waited : (m : ℕ) → 1 ≤ m → m ≤ 12 → rowOf x ≡ m → (count s m ≡ 0) × (1 ≤ maximum s m)
-  pub unmet : (f : ℕ) → 1 ≤ f → f ≤ 8 → rowOf x ≡ f + 12 → (1 ≤ attribute s f) × (isMet (x .pattern) (x .mode) (bitsOf s f) ≡ false)
+  pub unmet : (f : ℕ) → 1 ≤ f → f ≤ 8 → rowOf x ≡ f + 12 → (1 ≤ attribute s f) × (isMet (x .wait .pattern) (x .wait .mode) (bitsOf s f) ≡ false)
   pub single : (f u : ℕ) → 1 ≤ f → f ≤ 8 → T (isSingle (attribute s f)) → rowOf x ≡ f + 12 → rowOf (task s u) ≡ f + 12 → u ≡ t
 
 module _ (s : State) (k : Sound s) (t : ℕ) (x : Task) (some : 1 ≤ t) (top : t ≤ 24) where
@@ -70,202 +71,155 @@ module _ (s : State) (k : Sound s) (t : ℕ) (x : Task) (some : 1 ≤ t) (top : 
     unfolding moved levelOf rowOf
     sound-moved = record {
       tasks# = length-set (s .tasks) t x ∙ k .tasks#;
-      slices# = k .slices#;
-      charges# = k .charges#;
-      counts# = k .counts#;
-      maxima# = k .maxima#;
-      attributes# = k .attributes#;
-      bits# = k .bits#;
-      origin = (task-other 0 (λ e. omega arith) ∙ k .origin .0, k .origin .1, k .origin .2, k .origin .3, k .origin .4, k .origin .5, k .origin .6);
+      nobody = task-other 0 (λ e. omega arith) ∙ k .nobody;
       tasks = λ u. task-cases SoundTask u (λ e. sound) (λ other. k .tasks u);
       levels = lists-relisted (s .levels) 31 (λ u. levelOf (task s u)) (k .levels) t (levelOf x) some top (λ u h. ap levelOf (no-task s k u h))
           (λ u. levelOf (task (moved t x s) u)) (ap levelOf task-same) (λ u other. ap levelOf (task-other u other));
       waits = lists-relisted (s .waits) 21 (λ u. rowOf (task s u)) (k .waits) t (rowOf x) some top (λ u h. ap rowOf (no-task s k u h))
           (λ u. rowOf (task (moved t x s) u)) (ap rowOf task-same) (λ u other. ap rowOf (task-other u other));
-      slices = k .slices;
-      charges = k .charges;
-      counts = k .counts;
-      maxima = k .maxima;
-      waited = λ m u low top. task-cases (λ y. rowOf y ≡ m → (count s m ≡ 0) × (1 ≤ maximum s m)) u (λ e. may .waited m low top) (λ other. k .waited m u low top);
-      attributes = k .attributes;
-      bits = k .bits;
-      unmet = λ f u low top. task-cases (λ y. rowOf y ≡ f + 12 → (1 ≤ attribute s f) × (isMet (y .pattern) (y .mode) (bitsOf s f) ≡ false)) u (λ e. may .unmet f low top) (λ other. k .unmet f u low top);
-      single = λ f u v low top one. task-cases (λ y. rowOf y ≡ f + 12 → rowOf (task (moved t x s) v) ≡ f + 12 → u ≡ v) u
-          (λ e here. task-cases (λ y. rowOf y ≡ f + 12 → u ≡ v) v (λ z _. e ∙ sym z) (λ _ there. e ∙ sym (may .single f v low top one here there)))
-          (λ other there. task-cases (λ y. rowOf y ≡ f + 12 → u ≡ v) v (λ z here. may .single f u low top one here there ∙ sym z) (λ _ here. k .single f u v low top one there here));
+      rates = k .rates;
+      semaphores = record {
+        counts# = a .counts#;
+        maxima# = a .maxima#;
+        unused = a .unused;
+        counts = a .counts;
+        maxima = a .maxima;
+        waited = λ m u low top. task-cases (λ y. rowOf y ≡ m → (count s m ≡ 0) × (1 ≤ maximum s m)) u (λ e. may .waited m low top) (λ other. a .waited m u low top);
+      };
+      flags = record {
+        attributes# = b .attributes#;
+        bits# = b .bits#;
+        unused = b .unused;
+        attributes = b .attributes;
+        bits = b .bits;
+        unmet = λ f u low top. task-cases (λ y. rowOf y ≡ f + 12 → (1 ≤ attribute s f) × (isMet (y .wait .pattern) (y .wait .mode) (bitsOf s f) ≡ false)) u (λ e. may .unmet f low top) (λ other. b .unmet f u low top);
+        single = λ f u v low top one. task-cases (λ y. rowOf y ≡ f + 12 → rowOf (task (moved t x s) v) ≡ f + 12 → u ≡ v) u
+            (λ e here. task-cases (λ y. rowOf y ≡ f + 12 → u ≡ v) v (λ z _. e ∙ sym z) (λ _ there. e ∙ sym (may .single f v low top one here there)))
+            (λ other there. task-cases (λ y. rowOf y ≡ f + 12 → u ≡ v) v (λ z here. may .single f u low top one here there ∙ sym z) (λ _ here. b .single f u v low top one there here));
+      };
     }
+      where
+        a : SoundSemaphores (s .tasks) (s .numbers .counts) (s .numbers .maxima)
+        a = k .semaphores
+
+        b : SoundFlags (s .tasks) (s .numbers .attributes) (s .numbers .bits)
+        b = k .flags
+
+-- ---- other numbers, which are sound by themselves
+renumbered : (s : State) (n : Numbers) → Sound s → SoundLevels (n .slices) (n .charges) → SoundSemaphores (s .tasks) (n .counts) (n .maxima)
+    → SoundFlags (s .tasks) (n .attributes) (n .bits) → Sound (record { tasks = s .tasks; levels = s .levels; waits = s .waits; numbers = n })
+renumbered s n k rates semaphores flags = record {
+  tasks# = k .tasks#;
+  nobody = k .nobody;
+  tasks = k .tasks;
+  levels = k .levels;
+  waits = k .waits;
+  rates = rates;
+  semaphores = semaphores;
+  flags = flags;
+}
 
 -- ---- a semaphore's numbers
 pub sound-counted : (s : State) (m n v : ℕ) → Sound s → 1 ≤ m → n ≤ v → v ≤ 65535 → ((t : ℕ) → rowOf (task s t) ≡ m → (n ≡ 0) × (1 ≤ v)) → Sound (counted m n v s)
 unfolding counted
-sound-counted s m n v k some low top free = record {
-  tasks# = k .tasks#;
-  slices# = k .slices#;
-  charges# = k .charges#;
-  counts# = length-set (s .counts) m n ∙ k .counts#;
-  maxima# = length-set (s .maxima) m v ∙ k .maxima#;
-  attributes# = k .attributes#;
-  bits# = k .bits#;
-  origin = (k .origin .0, k .origin .1, k .origin .2, getD-set-other (s .counts) m 0 n 0 (λ e. omega arith) ∙ k .origin .3, getD-set-other (s .maxima) m 0 v 0 (λ e. omega arith) ∙ k .origin .4, k .origin .5, k .origin .6);
-  tasks = k .tasks;
-  levels = k .levels;
-  waits = k .waits;
-  slices = k .slices;
-  charges = k .charges;
-  counts = λ i. stored-both (λ a b. a ≤ b) (s .counts) (s .maxima) m n v i same (λ e. low) (k .counts i);
-  maxima = λ i. stored (λ b. b ≤ 65535) (s .maxima) m v i (λ e. top) (k .maxima i);
-  waited = λ i t h most e. stored-both (λ a b. (a ≡ 0) × (1 ≤ b)) (s .counts) (s .maxima) m n v i same (λ z. free t (e ∙ z)) (k .waited i t h most e);
-  attributes = k .attributes;
-  bits = k .bits;
-  unmet = k .unmet;
-  single = k .single;
-}
+sound-counted s m n v k some low top free = renumbered s (counted m n v s .numbers) k (k .rates) (record {
+  counts# = length-set ns m n ∙ a .counts#;
+  maxima# = length-set vs m v ∙ a .maxima#;
+  unused = (stored (λ b. b ≡ 0) ns m n 0 (λ e. absurd (omega arith)) (a .unused .0), stored (λ b. b ≡ 0) vs m v 0 (λ e. absurd (omega arith)) (a .unused .1));
+  counts = λ i. stored-both (λ a b. a ≤ b) ns vs m n v i same (λ e. low) (a .counts i);
+  maxima = λ i. stored (λ b. b ≤ 65535) vs m v i (λ e. top) (a .maxima i);
+  waited = λ i t h most e. stored-both (λ a b. (a ≡ 0) × (1 ≤ b)) ns vs m n v i same (λ z. free t (e ∙ z)) (a .waited i t h most e);
+}) (k .flags)
   where
-    same : length (s .counts) ≡ length (s .maxima)
-    same = k .counts# ∙ sym (k .maxima#)
+    ns : List ℕ
+    ns = s .numbers .counts
+
+    vs : List ℕ
+    vs = s .numbers .maxima
+
+    a : SoundSemaphores (s .tasks) ns vs
+    a = k .semaphores
+
+    same : length ns ≡ length vs
+    same = a .counts# ∙ sym (a .maxima#)
 
 -- ---- a flag's numbers
 -- attributes a and bits b fit those who wait on flag f
 pub record FlagFits (s : State) (f a b : ℕ) : Type 0 where
   pub kept : T (areKept a)
   pub none : a ≡ 0 → b ≡ 0
-  pub unmet : (t : ℕ) → rowOf (task s t) ≡ f + 12 → (1 ≤ a) × (isMet (task s t .pattern) (task s t .mode) b ≡ false)
+  pub unmet : (t : ℕ) → rowOf (task s t) ≡ f + 12 → (1 ≤ a) × (isMet (task s t .wait .pattern) (task s t .wait .mode) b ≡ false)
   pub single : T (isSingle a) → (t u : ℕ) → rowOf (task s t) ≡ f + 12 → rowOf (task s u) ≡ f + 12 → t ≡ u
 
 pub sound-flagged : (s : State) (f a b : ℕ) → Sound s → 1 ≤ f → FlagFits s f a b → Sound (flagged f a b s)
 unfolding flagged
-sound-flagged s f a b k some fits = record {
-  tasks# = k .tasks#;
-  slices# = k .slices#;
-  charges# = k .charges#;
-  counts# = k .counts#;
-  maxima# = k .maxima#;
-  attributes# = length-set (s .attributes) f a ∙ k .attributes#;
-  bits# = length-set (s .bits) f b ∙ k .bits#;
-  origin = (k .origin .0, k .origin .1, k .origin .2, k .origin .3, k .origin .4, getD-set-other (s .attributes) f 0 a 0 (λ e. omega arith) ∙ k .origin .5, getD-set-other (s .bits) f 0 b 0 (λ e. omega arith) ∙ k .origin .6);
-  tasks = k .tasks;
-  levels = k .levels;
-  waits = k .waits;
-  slices = k .slices;
-  charges = k .charges;
-  counts = k .counts;
-  maxima = k .maxima;
-  waited = k .waited;
-  attributes = λ i. stored (λ c. T (areKept c)) (s .attributes) f a i (λ e. fits .kept) (k .attributes i);
-  bits = λ i. stored-both (λ c d. c ≡ 0 → d ≡ 0) (s .attributes) (s .bits) f a b i same (λ e. fits .none) (k .bits i);
-  unmet = λ i t low top e. stored-both (λ c d. (1 ≤ c) × (isMet (task s t .pattern) (task s t .mode) d ≡ false)) (s .attributes) (s .bits) f a b i same
-      (λ z. fits .unmet t (e ∙ ap (λ n. n + 12) z)) (k .unmet i t low top e);
-  single = λ i t u low top. stored (λ c. T (isSingle c) → rowOf (task s t) ≡ i + 12 → rowOf (task s u) ≡ i + 12 → t ≡ u) (s .attributes) f a i
-      (λ z one d e. fits .single one t u (d ∙ ap (λ n. n + 12) z) (e ∙ ap (λ n. n + 12) z)) (k .single i t u low top);
-}
+sound-flagged s f a b k some fits = renumbered s (flagged f a b s .numbers) k (k .rates) (k .semaphores) (record {
+  attributes# = length-set es f a ∙ g .attributes#;
+  bits# = length-set bs f b ∙ g .bits#;
+  unused = (stored (λ c. c ≡ 0) es f a 0 (λ e. absurd (omega arith)) (g .unused .0), stored (λ c. c ≡ 0) bs f b 0 (λ e. absurd (omega arith)) (g .unused .1));
+  attributes = λ i. stored (λ c. T (areKept c)) es f a i (λ e. fits .kept) (g .attributes i);
+  bits = λ i. stored-both (λ c d. c ≡ 0 → d ≡ 0) es bs f a b i same (λ e. fits .none) (g .bits i);
+  unmet = λ i t low top e. stored-both (λ c d. (1 ≤ c) × (isMet (task s t .wait .pattern) (task s t .wait .mode) d ≡ false)) es bs f a b i same
+      (λ z. fits .unmet t (e ∙ ap (λ n. n + 12) z)) (g .unmet i t low top e);
+  single = λ i t u low top. stored (λ c. T (isSingle c) → rowOf (task s t) ≡ i + 12 → rowOf (task s u) ≡ i + 12 → t ≡ u) es f a i
+      (λ z one d e. fits .single one t u (d ∙ ap (λ n. n + 12) z) (e ∙ ap (λ n. n + 12) z)) (g .single i t u low top);
+})
   where
-    same : length (s .attributes) ≡ length (s .bits)
-    same = k .attributes# ∙ sym (k .bits#)
+    es : List ℕ
+    es = s .numbers .attributes
+
+    bs : List ℕ
+    bs = s .numbers .bits
+
+    g : SoundFlags (s .tasks) es bs
+    g = k .flags
+
+    same : length es ≡ length bs
+    same = g .attributes# ∙ sym (g .bits#)
 
 -- ---- a level's slice and charge
+-- slices vs with v and charges ns with n at place l
+rated : (vs ns : List ℕ) (l v n : ℕ) → SoundLevels vs ns → 1 ≤ l → v ≤ 1000 → (n < v) ⊎ ((v ≡ 0) × (n ≡ 0)) → SoundLevels (set vs l v) (set ns l n)
+rated vs ns l v n k some top low = record {
+  slices# = length-set vs l v ∙ k .slices#;
+  charges# = length-set ns l n ∙ k .charges#;
+  unused = (stored (λ a. a ≡ 0) vs l v 0 (λ e. absurd (omega arith)) (k .unused .0), stored (λ a. a ≡ 0) ns l n 0 (λ e. absurd (omega arith)) (k .unused .1));
+  slices = λ i. stored (λ b. b ≤ 1000) vs l v i (λ e. top) (k .slices i);
+  charges = λ i. stored-both (λ a b. (b < a) ⊎ ((a ≡ 0) × (b ≡ 0))) vs ns l v n i (k .slices# ∙ sym (k .charges#)) (λ e. low) (k .charges i);
+}
+
 pub sound-sliced : (s : State) (l v : ℕ) → Sound s → 1 ≤ l → v ≤ 1000 → Sound (sliced l v s)
 unfolding sliced
-sound-sliced s l v k some top = record {
-  tasks# = k .tasks#;
-  slices# = length-set (s .slices) l v ∙ k .slices#;
-  charges# = length-set (s .charges) l 0 ∙ k .charges#;
-  counts# = k .counts#;
-  maxima# = k .maxima#;
-  attributes# = k .attributes#;
-  bits# = k .bits#;
-  origin = (k .origin .0, getD-set-other (s .slices) l 0 v 0 (λ e. omega arith) ∙ k .origin .1, getD-set-other (s .charges) l 0 0 0 (λ e. omega arith) ∙ k .origin .2, k .origin .3, k .origin .4, k .origin .5, k .origin .6);
-  tasks = k .tasks;
-  levels = k .levels;
-  waits = k .waits;
-  slices = λ i. stored (λ b. b ≤ 1000) (s .slices) l v i (λ e. top) (k .slices i);
-  charges = λ i. stored-both (λ a b. (a < b) ⊎ ((b ≡ 0) × (a ≡ 0))) (s .charges) (s .slices) l 0 v i same (λ e. cleared) (k .charges i);
-  counts = k .counts;
-  maxima = k .maxima;
-  waited = k .waited;
-  attributes = k .attributes;
-  bits = k .bits;
-  unmet = k .unmet;
-  single = k .single;
-}
+sound-sliced s l v k some top = renumbered s (sliced l v s .numbers) k (rated (s .numbers .slices) (s .numbers .charges) l v 0 (k .rates) some top cleared) (k .semaphores) (k .flags)
   where
-    same : length (s .charges) ≡ length (s .slices)
-    same = k .charges# ∙ sym (k .slices#)
-
     cleared : (0 < v) ⊎ ((v ≡ 0) × (_≡_ {A = ℕ} 0 0))
     cleared = ⊎-elim (λ (h : 0 < v). inl h) (λ (h : v ≤ 0). inr (omega arith, refl)) (below? 0 v)
 
 pub sound-withCharge : (s : State) (l n : ℕ) → Sound s → n < slice s l → Sound (withCharge l n s)
-sound-withCharge s l n k low = record {
-  tasks# = k .tasks#;
-  slices# = k .slices#;
-  charges# = length-set (s .charges) l n ∙ k .charges#;
-  counts# = k .counts#;
-  maxima# = k .maxima#;
-  attributes# = k .attributes#;
-  bits# = k .bits#;
-  origin = (k .origin .0, k .origin .1, getD-set-other (s .charges) l 0 n 0 some ∙ k .origin .2, k .origin .3, k .origin .4, k .origin .5, k .origin .6);
-  tasks = k .tasks;
-  levels = k .levels;
-  waits = k .waits;
-  slices = k .slices;
-  charges = λ i. stored (λ a. (a < slice s i) ⊎ ((slice s i ≡ 0) × (a ≡ 0))) (s .charges) l n i (λ e. inl (rw e low)) (k .charges i);
-  counts = k .counts;
-  maxima = k .maxima;
-  waited = k .waited;
-  attributes = k .attributes;
-  bits = k .bits;
-  unmet = k .unmet;
-  single = k .single;
-}
+sound-withCharge s l n k low = renumbered s (withCharge l n s .numbers) k charged (k .semaphores) (k .flags)
   where
-    some : 0 ≡ l → ⊥
-    some e = let none : slice s l ≡ 0 = rw (← e) (k .origin .1) in omega arith
+    vs : List ℕ
+    vs = s .numbers .slices
 
+    some : 1 ≤ l
+    some = let n : l ≡ 0 → ⊥ = λ e. let none : slice s l ≡ 0 = rw e (k .rates .unused .0) in omega arith in omega arith
+
+    charged : SoundLevels vs (set (s .numbers .charges) l n)
+    charged = rw (set-getD vs l 0) at (rated vs (s .numbers .charges) l (slice s l) n (k .rates) some (k .rates .slices l) (inl low))
+
+pub sound-withTime : (s : State) (n : ℕ) → Sound s → Sound (withTime n s)
+sound-withTime s n k = renumbered s (withTime n s .numbers) k (k .rates) (k .semaphores) (k .flags)
+
+-- ---- a level's first becomes its last
 pub sound-rotated : (s : State) (l : ℕ) → Sound s → Sound (rotated l s)
 unfolding rotated
 sound-rotated s l k = record {
   tasks# = k .tasks#;
-  slices# = k .slices#;
-  charges# = k .charges#;
-  counts# = k .counts#;
-  maxima# = k .maxima#;
-  attributes# = k .attributes#;
-  bits# = k .bits#;
-  origin = k .origin;
+  nobody = k .nobody;
   tasks = k .tasks;
   levels = lists-turned (s .levels) 31 (λ t. levelOf (task s t)) l (k .levels);
   waits = k .waits;
-  slices = k .slices;
-  charges = k .charges;
-  counts = k .counts;
-  maxima = k .maxima;
-  waited = k .waited;
-  attributes = k .attributes;
-  bits = k .bits;
-  unmet = k .unmet;
-  single = k .single;
-}
-
-pub sound-withTime : (s : State) (n : ℕ) → Sound s → Sound (withTime n s)
-sound-withTime s n k = record {
-  tasks# = k .tasks#;
-  slices# = k .slices#;
-  charges# = k .charges#;
-  counts# = k .counts#;
-  maxima# = k .maxima#;
-  attributes# = k .attributes#;
-  bits# = k .bits#;
-  origin = k .origin;
-  tasks = k .tasks;
-  levels = k .levels;
-  waits = k .waits;
-  slices = k .slices;
-  charges = k .charges;
-  counts = k .counts;
-  maxima = k .maxima;
-  waited = k .waited;
-  attributes = k .attributes;
-  bits = k .bits;
-  unmet = k .unmet;
-  single = k .single;
+  rates = k .rates;
+  semaphores = k .semaphores;
+  flags = k .flags;
 }

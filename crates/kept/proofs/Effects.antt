@@ -15,7 +15,7 @@ use Rattle.model.specs.declared.Effect.{Effect}
 use Rattle.model.specs.declared.Effect.the-variants.{Nothing, Moves, Stops, Counts, Deletes, Slices, Ticks, Flags, Tells}
 use Rattle.model.specs.Flag.{areKept, isSingle, isMet}
 use Rattle.model.specs.Task.{dormant, activated, aged, rowOf}
-use Rattle.model.specs.State.{task, slice, charge, attribute, waiters, running, moved, withCharge, rotated, withTime}
+use Rattle.model.specs.State.{task, slice, charge, attribute, time, waiters, running, moved, withCharge, rotated, withTime}
 use Rattle.model.specs.Effect.{stopped, toldAll, deleted, toldFlag, chargedLevel, charged, lapsed, ticked, carried}
 use Rattle.model.specs.Sound.{SoundTask, Sound}
 use Rattle.laws.proofs.Record.{flag-row}
@@ -27,7 +27,7 @@ use Rattle.kept.proofs.Told.{may-none, may-same, waiter-in, Told, told-
 pub record Tellable (s : State) (f : ℕ) (w : News) (a b : ℕ) : Type 0 where
   pub kept : T (areKept a)
   pub none : a ≡ 0 → b ≡ 0
-  pub unmet : (x : Task) → SoundTask x → rowOf x ≡ f + 12 → Stays w x → (1 ≤ a) × (isMet (x .pattern) (x .mode) b ≡ false)
+  pub unmet : (x : Task) → SoundTask x → rowOf x ≡ f + 12 → Stays w x → (1 ≤ a) × (isMet (x .wait .pattern) (x .wait .mode) b ≡ false)
   pub single : T (isSingle a) → T (isSingle (attribute s f))
 
 -- what a plan's tests have shown of its effect
@@ -80,7 +80,7 @@ sound-toldFlag s k f w a b low top fits = rw (flag-row f low top) (sound-flagged
   kept = fits .kept;
   none = fits .none;
   unmet = λ t e. fits .unmet (task s′ t) (z .sound .tasks t) e (z .stays t (waiter-in s′ (z .sound) t (omega arith) .0) e);
-  single = λ one t u. z .sound .single f t u low top (rw (z .kept) (fits .single one));
+  single = λ one t u. z .sound .flags .single f t u low top (rw (z .kept) (fits .single one));
 }))
   where
     s′ : State
@@ -122,8 +122,8 @@ sound-lapsed (suc n) t s k some top =
 sound-ticked : (s : State) → Sound s → Sound (ticked s)
 unfolding ticked
 sound-ticked s k =
-    sound-lapsed 24 1 (charged (running s) (withTime ((s .time + 1) % 2 ^ 32) s))
-    (sound-charged (withTime ((s .time + 1) % 2 ^ 32) s) (sound-withTime s ((s .time + 1) % 2 ^ 32) k) (running s))
+    sound-lapsed 24 1 (charged (running s) (withTime ((time s + 1) % 2 ^ 32) s))
+    (sound-charged (withTime ((time s + 1) % 2 ^ 32) s) (sound-withTime s ((time s + 1) % 2 ^ 32) k) (running s))
     (omega arith) (omega arith)
 
 -- ---- any effect

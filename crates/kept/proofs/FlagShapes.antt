@@ -10,16 +10,15 @@ use Rattle.model.specs.declared.Task.{Task}
 use Rattle.model.specs.declared.State.{State}
 use Rattle.model.specs.declared.News.the-variants.{Deleted, Bits}
 use Rattle.model.specs.declared.Effect.the-variants.{Flags}
-use Rattle.model.specs.declared.Context.{Context}
 use Rattle.model.specs.declared.Event.{Event}
 use Rattle.model.specs.declared.Event.the-variants.{Create, Delete, Set, Iset, Clear, Iclear, Wait, WaitPolling, Iwait}
 use Rattle.model.specs.Row.{firstOf}
 use Rattle.model.specs.Flag.{isAttributes, areKept, isSingle, isMet, withBits, withoutBits, bitsLeft, flagRow}
-use Rattle.model.specs.Task.{aFlag, endless, rowOf, waiting}
+use Rattle.model.specs.Task.{endless, rowOf, onFlag, waiting}
 use Rattle.model.specs.State.{task, attribute, bitsOf, flag, running}
 use Rattle.model.specs.Plan.{isTimeout, isFlag, isPattern, isMode, isFlagMade}
 use Rattle.model.specs.Service.{eventCreate, eventDelete, meetsFirst, eventSet, eventClear, isOccupied, taken, eventWait, eventPoll}
-use Rattle.model.specs.Call.{inT, inI, eventSubject, eventPlan}
+use Rattle.model.specs.Call.{eventSubject, eventPlan}
 use Rattle.model.specs.Sound.{SoundTask, Sound}
 use Rattle.laws.proofs.Padded.{both}
 use Rattle.laws.proofs.Bits.{unmet-without, unmet-left}
@@ -58,20 +57,20 @@ module _ (s : State) (f : ℕ) where
       go false free one = absurd one
 
   -- whoever waits on it asks for a bit
-  asks : (x : Task) → SoundTask x → 1 ≤ f → rowOf x ≡ f + 12 → 1 ≤ x .pattern
+  asks : (x : Task) → SoundTask x → 1 ≤ f → rowOf x ≡ f + 12 → 1 ≤ x .wait .pattern
   asks x k low e = k .asks (row-flag x k f low e .0) .0
 
   -- a flag gets other bits, which meet none of those who wait
   rebits : T (isFlag f) → T (isFlagMade (flag s f)) → (b : ℕ)
-      → (Sound s → (t : ℕ) → rowOf (task s t) ≡ f + 12 → isMet (task s t .pattern) (task s t .mode) (bitsOf s f) ≡ false → isMet (task s t .pattern) (task s t .mode) b ≡ false)
+      → (Sound s → (t : ℕ) → rowOf (task s t) ≡ f + 12 → isMet (task s t .wait .pattern) (task s t .wait .mode) (bitsOf s f) ≡ false → isMet (task s t .wait .pattern) (task s t .wait .mode) b ≡ false)
       → Sound s → Fit s (Flags f (attribute s f) b)
   rebits h made b less k =
       let i = range 1 f 8 h in
       flags f (attribute s f) b (i .0) (record {
-        kept = k .attributes f;
+        kept = k .flags .attributes f;
         none = λ e. absurd (omega (arith, some-of (attribute s f) made));
-        unmet = λ t e. let u = k .unmet f t (i .0) (i .1) e in (u .0, less k t e (u .1));
-        single = λ one t u. k .single f t u (i .0) (i .1) one;
+        unmet = λ t e. let u = k .flags .unmet f t (i .0) (i .1) e in (u .0, less k t e (u .1));
+        single = λ one t u. k .flags .single f t u (i .0) (i .1) one;
       })
 
   -- ---- the services
@@ -84,8 +83,8 @@ module _ (s : State) (f : ℕ) where
       accepts _ _ _ tt (λ k. flags f (a + 1) b (i .0) (record {
         kept = are-kept a (q .0);
         none = λ e. absurd (omega arith);
-        unmet = λ t e. absurd (omega (arith, k .unmet f t (i .0) (i .1) e .0, none-of (attribute s f) (q .1)));
-        single = λ one t u e. absurd (omega (arith, k .unmet f t (i .0) (i .1) e .0, none-of (attribute s f) (q .1)));
+        unmet = λ t e. absurd (omega (arith, k .flags .unmet f t (i .0) (i .1) e .0, none-of (attribute s f) (q .1)));
+        single = λ one t u e. absurd (omega (arith, k .flags .unmet f t (i .0) (i .1) e .0, none-of (attribute s f) (q .1)));
       })))
 
   shape-eventDelete : (mine : Bool) → Shape s (eventDelete mine f (flag s f))
@@ -103,21 +102,21 @@ module _ (s : State) (f : ℕ) where
       checks (isFlag f && isPattern p) (isFlagMade (flag s f)) mine _ (λ h made. accepts _ _ _ tt (λ k.
       let i = range 1 f 8 (both (isFlag f) (isPattern p) h .0) in
       tells f (Bits b) a (bitsLeft a met b) (i .0) (i .1) (record {
-        kept = k .attributes f;
+        kept = k .flags .attributes f;
         none = λ e. absurd (omega (arith, some-of a made));
-        unmet = λ x sound e stays. (some-of a made, unmet-left (x .pattern) (x .mode) a b met (asks x sound (i .0) e) stays);
+        unmet = λ x sound e stays. (some-of a made, unmet-left (x .wait .pattern) (x .wait .mode) a b met (asks x sound (i .0) e) stays);
         single = λ one. one;
       })))
 
   shape-eventClear : (mine : Bool) (p : ℕ) → Shape s (eventClear mine f p (flag s f))
   unfolding eventClear
   shape-eventClear mine p = checks (isFlag f && isPattern p) (isFlagMade (flag s f)) mine _ (λ h made. accepts _ _ _ tt
-      (rebits (both (isFlag f) (isPattern p) h .0) made (withoutBits (bitsOf s f) p) (λ k t e. unmet-without (task s t .pattern) (task s t .mode) (bitsOf s f) p)))
+      (rebits (both (isFlag f) (isPattern p) h .0) made (withoutBits (bitsOf s f) p) (λ k t e. unmet-without (task s t .wait .pattern) (task s t .wait .mode) (bitsOf s f) p)))
 
   shape-taken : T (isFlag f) → T (isFlagMade (flag s f)) → Shape s (taken f (flag s f))
   unfolding taken
   shape-taken h made = let a = attribute s f in accepts _ _ _ tt
-      (rebits h made (bitsLeft a true (bitsOf s f)) (λ k t e. unmet-left (task s t .pattern) (task s t .mode) a (bitsOf s f) true (asks (task s t) (k .tasks t) (range 1 f 8 h .0) e)))
+      (rebits h made (bitsLeft a true (bitsOf s f)) (λ k t e. unmet-left (task s t .wait .pattern) (task s t .wait .mode) a (bitsOf s f) true (asks (task s t) (k .tasks t) (range 1 f 8 h .0) e)))
 
   shape-eventWait : (mine : Bool) (p m d : ℕ) → Shape s (eventWait mine f p m d (running s) (task s (running s)) (flag s f))
   unfolding eventWait rowOf
@@ -128,14 +127,14 @@ module _ (s : State) (f : ℕ) where
       needs (not (eqb t 0)) _ _ tt (λ some. needs (not (isOccupied (flag s f))) _ _ tt (λ free. picks (isMet p m (bitsOf s f)) _ _
       (λ _. shape-taken (a .0) made)
       (λ unmet. accepts _ _ _ tt (λ k. let r = runs s some k in let i = range 1 f 8 (a .0) in
-      moves t x (r .low) (r .top) (sound-asking (task s t) (k .tasks t) (r .live) f d p m (i .0) (i .1) (range 1 d endless (c .1) .0) (some-of p (b .0)) (leb→le m 1 (c .0)))
+      moves t x (r .low) (r .top) (sound-asking (task s t) (k .tasks t) (r .live) f p m d (i .0) (i .1) (range 1 d endless (c .1) .0) (some-of p (b .0)) (leb→le m 1 (c .0)))
       (may k (i .0) (i .1) made free unmet))))))
     where
       t : ℕ
       t = running s
 
       x : Task
-      x = waiting (task s t) aFlag f d p m
+      x = waiting (task s t) (onFlag f p m d)
 
       may : Sound s → 1 ≤ f → f ≤ 8 → T (isFlagMade (flag s f)) → T (not (isOccupied (flag s f))) → T (not (isMet p m (bitsOf s f))) → MayWait s t x
       may k low top made free unmet = let z : rowOf x ≡ f + 12 = row in record {
@@ -154,14 +153,14 @@ module _ (s : State) (f : ℕ) where
   shape-eventPoll mine p m = checks (isFlag f && (isPattern p && isMode m)) (isFlagMade (flag s f)) mine _ (λ h made.
       needs (not (isOccupied (flag s f))) _ _ tt (λ _. needs (isMet p m (bitsOf s f)) _ _ tt (λ _. shape-taken (both (isFlag f) (isPattern p && isMode m) h .0) made)))
 
-pub shape-event : (s : State) (c : Context) (f : ℕ) (e : Event) → Shape s (eventPlan c f e (running s) (task s (eventSubject e (running s) (firstOf (s .waits) (flagRow f)))) (flag s f))
+pub shape-event : (s : State) (mine : Bool) (f : ℕ) (e : Event) → Shape s (eventPlan mine f e (running s) (task s (eventSubject e (running s) (firstOf (s .waits) (flagRow f)))) (flag s f))
 unfolding eventPlan
-shape-event s c f (Create a b) = shape-eventCreate s f (inT c) a b
-shape-event s c f Delete = shape-eventDelete s f (inT c)
-shape-event s c f (Set b) = shape-eventSet s f (inT c) b
-shape-event s c f (Iset b) = shape-eventSet s f (inI c) b
-shape-event s c f (Clear b) = shape-eventClear s f (inT c) b
-shape-event s c f (Iclear b) = shape-eventClear s f (inI c) b
-shape-event s c f (Wait p m d) = shape-eventWait s f (inT c) p m d
-shape-event s c f (WaitPolling p m) = shape-eventPoll s f (inT c) p m
-shape-event s c f (Iwait p m) = shape-eventPoll s f (inI c) p m
+shape-event s mine f (Create a b) = shape-eventCreate s f mine a b
+shape-event s mine f Delete = shape-eventDelete s f mine
+shape-event s mine f (Set b) = shape-eventSet s f mine b
+shape-event s mine f (Iset b) = shape-eventSet s f mine b
+shape-event s mine f (Clear b) = shape-eventClear s f mine b
+shape-event s mine f (Iclear b) = shape-eventClear s f mine b
+shape-event s mine f (Wait p m d) = shape-eventWait s f mine p m d
+shape-event s mine f (WaitPolling p m) = shape-eventPoll s f mine p m
+shape-event s mine f (Iwait p m) = shape-eventPoll s f mine p m

@@ -8,13 +8,14 @@ use native.Mathlib.Omega.{arith}
 use lib.Dec.{T}
 use lib.ListN.{length}
 use borrow.Author.Tests.{eq-eqb, ne-eqb}
+use Rattle.model.specs.declared.Queue.{Queue}
 use Rattle.model.specs.Row.{joined, left, turned, row, firstOf, withRow, relisted}
 use Rattle.model.specs.Test.{one, occ, padded, isListed}
 use Rattle.model.specs.Sound.{Lists}
 use Rattle.laws.proofs.Number.{same?}
 use Rattle.laws.proofs.Row.{length-turned}
-use Rattle.laws.proofs.Table.{length-row-in, length-withRow, row-withRow-same, row-withRow-other, first-row}
-use Rattle.laws.proofs.Relisted.{relisted-kept, length-relisted, row-relisted-from, row-relisted-to, row-relisted-other, row-relisted-zero}
+use Rattle.laws.proofs.Table.{length-withRow, row-withRow, length-row-withRow}
+use Rattle.laws.proofs.Relisted.{relisted-kept, length-relisted, length-row-relisted, row-relisted-from, row-relisted-to, row-relisted-other, row-relisted-zero}
 use Rattle.laws.proofs.Occ.{one-le, occ-left-same, occ-left-other, occ-joined-same, occ-joined-other, occ-turned, first-in}
 use Rattle.laws.proofs.Padded.{padded-left, padded-joined, padded-turned}
 use Rattle.laws.proofs.Room.{room}
@@ -32,7 +33,7 @@ listed-by l k h =
     let low : l ≡ 0 → ⊥ = λ z. omega (arith, listed-none l k (λ some _. omega arith)) in
     (omega arith, ⊎-elim (λ (e : k ≡ l). e) (λ (other : k ≡ l → ⊥). absurd (omega (arith, listed-none l k (λ _ e. other e)))) (same? k l))
 
-module _ (ls : List ℕ) (n : ℕ) (key : ℕ → ℕ) (k : Lists ls n key) where
+module _ (ls : List Queue) (n : ℕ) (key : ℕ → ℕ) (k : Lists ls n key) where
   -- a listed task has the row's key, and a task with a key is listed
   pub key-of : (l t : ℕ) → l < n → 1 ≤ t → 1 ≤ occ t (row ls l) → (1 ≤ l) × (key t ≡ l)
   key-of l t h some there = listed-by l (key t) (omega (arith, k .exactly l t h some))
@@ -45,21 +46,19 @@ module _ (ls : List ℕ) (n : ℕ) (key : ℕ → ℕ) (k : Lists ls n key) wher
 
   -- who stands first has the row's key
   pub key-first : (l : ℕ) → l < n → (firstOf ls l ≡ 0 → ⊥) → (1 ≤ l) × (key (firstOf ls l) ≡ l)
-  key-first l h some =
-      let e = first-row ls l in
-      key-of l (firstOf ls l) h (omega arith) (rw e (first-in (row ls l) (λ z. some (e ∙ z))))
+  key-first l h some = key-of l (firstOf ls l) h (omega arith) (first-in (row ls l) some)
 
   -- where only the tasks up to 24 have a key, a row has room for each of them that it does not list
   pub has-room : ((u : ℕ) → 24 < u → key u ≡ 0) → (l t : ℕ) → l < n → 1 ≤ t → t ≤ 24 → occ t (row ls l) ≡ 0 → 1 ≤ occ 0 (row ls l)
   has-room far l t h some top none =
-      room (row ls l) t 24 (length-row-in ls l n (k .sized) h)
+      room (row ls l) t 24 (k .places l)
       (λ u high. listed-not l u h (omega arith) (λ low e. omega (arith, far u high)))
       (λ u low. omega (arith, k .exactly l u h low, one-le (isListed l (key u))))
       some top none
 
 -- ---- a task leaves its row for another
 -- what holds of a row as it was, where both keys say the same of it, of the row that was left and of the one that was joined, holds of each row
-module _ (P : List ℕ → Type 0) (ls : List ℕ) (f g t l : ℕ) where
+module _ (P : List ℕ → Type 0) (ls : List Queue) (f g t l : ℕ) (top : l < length ls) where
   pub row-cases : (one (isListed l f) ≡ one (isListed l g) → P (row ls l)) → ((f ≡ g → ⊥) → 1 ≤ l → l ≡ f → P (left (row ls f) t))
       → ((f ≡ g → ⊥) → 1 ≤ l → l ≡ g → P (joined (row ls g) t)) → P (row (relisted ls f g t) l)
   row-cases stays leaves joins = go (same? f g) (same? l 0) (same? l f) (same? l g)
@@ -67,15 +66,15 @@ module _ (P : List ℕ → Type 0) (ls : List ℕ) (f g t l : ℕ) where
       go : (f ≡ g) ⊎ (f ≡ g → ⊥) → (l ≡ 0) ⊎ (l ≡ 0 → ⊥) → (l ≡ f) ⊎ (l ≡ f → ⊥) → (l ≡ g) ⊎ (l ≡ g → ⊥) → P (row (relisted ls f g t) l)
       go (inl e) z a b = rw (relisted-kept ls f g t e) (stays (rw e))
       go (inr apart) (inl z) a b = rw (z, row-relisted-zero ls f g t) (rw z at (stays (rw z)))
-      go (inr apart) (inr low) (inl e) b = rw (e, row-relisted-from ls f g t apart (λ z. low (e ∙ z))) (leaves apart (omega arith) e)
-      go (inr apart) (inr low) (inr not-f) (inl e) = rw (e, row-relisted-to ls f g t apart (λ z. low (e ∙ z))) (joins apart (omega arith) e)
+      go (inr apart) (inr low) (inl e) b = rw (e, row-relisted-from ls f g t apart (λ z. low (e ∙ z)) (rw e at top)) (leaves apart (omega arith) e)
+      go (inr apart) (inr low) (inr not-f) (inl e) = rw (e, row-relisted-to ls f g t apart (λ z. low (e ∙ z)) (rw e at top)) (joins apart (omega arith) e)
       go (inr apart) (inr low) (inr not-f) (inr not-g) =
           rw (row-relisted-other ls f g t l not-f not-g) (stays (listed-none l f (λ _ e. not-f (sym e)) ∙ sym (listed-none l g (λ _ e. not-g (sym e)))))
 
-module _ (ls : List ℕ) (n : ℕ) (key : ℕ → ℕ) (k : Lists ls n key) (t g : ℕ) (some : 1 ≤ t) (top : t ≤ 24) (far : (u : ℕ) → 24 < u → key u ≡ 0) where
+module _ (ls : List Queue) (n : ℕ) (key : ℕ → ℕ) (k : Lists ls n key) (t g : ℕ) (some : 1 ≤ t) (top : t ≤ 24) (far : (u : ℕ) → 24 < u → key u ≡ 0) where
   -- where it now stands
   stands : (l : ℕ) → l < n → occ t (row (relisted ls (key t) g t) l) ≡ one (isListed l g)
-  stands l h = row-cases (λ q. occ t q ≡ one (isListed l g)) ls (key t) g t l (λ same. k .exactly l t h some ∙ same) leaves joins
+  stands l h = row-cases (λ q. occ t q ≡ one (isListed l g)) ls (key t) g t l (omega (arith, k .sized)) (λ same. k .exactly l t h some ∙ same) leaves joins
     where
       leaves : (key t ≡ g → ⊥) → 1 ≤ l → l ≡ key t → occ t (left (row ls (key t)) t) ≡ one (isListed l g)
       leaves apart low e =
@@ -90,33 +89,29 @@ module _ (ls : List ℕ) (n : ℕ) (key : ℕ → ℕ) (k : Lists ls n key) (t g
   pub lists-relisted : (key′ : ℕ → ℕ) → key′ t ≡ g → ((u : ℕ) → (u ≡ t → ⊥) → key′ u ≡ key u) → Lists (relisted ls (key t) g t) n key′
   lists-relisted key′ now others = record {
     sized = length-relisted ls (key t) g t ∙ k .sized;
+    places = λ l. length-row-relisted ls (key t) g t l ∙ k .places l;
     exactly = λ l u h low. ⊎-elim
         (λ (e : u ≡ t). rw (e, now) (stands l h))
-        (λ (other : u ≡ t → ⊥). rw (others u other) (kept l u low other ∙ k .exactly l u h low))
+        (λ (other : u ≡ t → ⊥). rw (others u other) (kept l u h low other ∙ k .exactly l u h low))
         (same? u t);
-    ends = λ l h. row-cases (λ q. T (padded q)) ls (key t) g t l (λ _. k .ends l h)
+    ends = λ l h. row-cases (λ q. T (padded q)) ls (key t) g t l (omega (arith, k .sized)) (λ _. k .ends l h)
         (λ _ _ e. padded-left (row ls (key t)) t (rw e at (k .ends l h)))
         (λ _ _ e. padded-joined (row ls g) t (rw e at (k .ends l h)));
   }
     where
-      kept : (l u : ℕ) → 1 ≤ u → (u ≡ t → ⊥) → occ u (row (relisted ls (key t) g t) l) ≡ occ u (row ls l)
-      kept l u low other = row-cases (λ q. occ u q ≡ occ u (row ls l)) ls (key t) g t l (λ _. refl)
+      kept : (l u : ℕ) → l < n → 1 ≤ u → (u ≡ t → ⊥) → occ u (row (relisted ls (key t) g t) l) ≡ occ u (row ls l)
+      kept l u h low other = row-cases (λ q. occ u q ≡ occ u (row ls l)) ls (key t) g t l (omega (arith, k .sized)) (λ _. refl)
           (λ _ _ e. rw e (occ-left-other (row ls (key t)) t u low other))
           (λ _ _ e. rw e (occ-joined-other (row ls g) t u low other))
 
 -- ---- the first of a row becomes its last
-pub lists-turned : (ls : List ℕ) (n : ℕ) (key : ℕ → ℕ) (l : ℕ) → Lists ls n key → Lists (withRow ls l (turned (row ls l))) n key
+pub lists-turned : (ls : List Queue) (n : ℕ) (key : ℕ → ℕ) (l : ℕ) → Lists ls n key → Lists (withRow ls l (turned (row ls l))) n key
 lists-turned ls n key l k = record {
-  sized = length-withRow ls l (turned (row ls l)) same ∙ k .sized;
-  exactly = λ m u h low. rows (λ q. occ u q ≡ one (isListed m (key u))) m (occ-turned (row ls m) u low ∙ k .exactly m u h low) (k .exactly m u h low);
-  ends = λ m h. rows (λ q. T (padded q)) m (padded-turned (row ls m) (k .ends m h)) (k .ends m h);
+  sized = length-withRow ls l q ∙ k .sized;
+  places = λ m. length-row-withRow ls l q (length-turned (row ls l)) m ∙ k .places m;
+  exactly = λ m u h low. row-withRow ls l q (λ w. occ u w ≡ one (isListed m (key u))) m (λ e. rw (← e) (occ-turned (row ls m) u low ∙ k .exactly m u h low)) (k .exactly m u h low);
+  ends = λ m h. row-withRow ls l q (λ w. T (padded w)) m (λ e. rw (← e) (padded-turned (row ls m) (k .ends m h))) (k .ends m h);
 }
   where
-    same : length (turned (row ls l)) ≡ length (row ls l)
-    same = length-turned (row ls l)
-
-    rows : (P : List ℕ → Type 0) (m : ℕ) → P (turned (row ls m)) → P (row ls m) → P (row (withRow ls l (turned (row ls l))) m)
-    rows P m turns stays = ⊎-elim
-        (λ (e : m ≡ l). rw (e, row-withRow-same ls l (turned (row ls l)) same) (rw e at turns))
-        (λ (other : m ≡ l → ⊥). rw (row-withRow-other ls l (turned (row ls l)) same m other) stays)
-        (same? m l)
+    q : List ℕ
+    q = turned (row ls l)

@@ -7,12 +7,13 @@ use Prim.Native.Nat.{ℕ, zero, suc, _-_, _≤_}
 use native.Mathlib.Omega.{arith}
 use lib.Dec.{T, eqb}
 use borrow.Author.Tests.{eqb-true, eqb-false}
+use Rattle.model.specs.declared.Wait.{Wait}
 use Rattle.model.specs.declared.Task.{Task}
 use Rattle.model.specs.declared.News.{News}
 use Rattle.model.specs.declared.News.the-variants.{Deleted, Bits}
 use Rattle.model.specs.Flag.{isMet}
 use Rattle.model.specs.Task.{nothing, aSleep, aSemaphore, aFlag, served, dlt, isDormant, isSuspended, isWaiting, isAsleep, isRunnable, isTimed, endless, levelOf, rowOf, ranOut, aged, told}
-use Rattle.model.specs.Task.{dormant, activated, created, withPriority, withSuspended, withWakeups, withActivations, withRemaining, waiting, ended}
+use Rattle.model.specs.Task.{noWait, asleep, onSemaphore, onFlag, dormant, activated, created, withPriority, withSuspended, withWakeups, withActivations, withRemaining, waiting, ended}
 use Rattle.model.specs.Test.{isWaitCode}
 use Rattle.model.specs.Sound.{SoundTask}
 use Rattle.laws.proofs.Padded.{both}
@@ -38,17 +39,17 @@ module _ (x : Task) (k : SoundTask x) where
   pub suspended-live : 1 ≤ x .suspended → 1 ≤ x .active
   suspended-live h = let live : x .active ≡ 0 → ⊥ = λ e. omega (arith, k .dormant e) in omega arith
 
-  pub waiting-live : (x .wait ≡ nothing → ⊥) → 1 ≤ x .active
+  pub waiting-live : (x .wait .kind ≡ nothing → ⊥) → 1 ≤ x .active
   waiting-live waits = let live : x .active ≡ 0 → ⊥ = λ e. waits (k .dormant e .0) in omega arith
 
 -- ---- what its keys say
-pub level-live : (x : Task) → 1 ≤ levelOf x → (1 ≤ x .active) × (x .wait ≡ nothing)
+pub level-live : (x : Task) → 1 ≤ levelOf x → (1 ≤ x .active) × (x .wait .kind ≡ nothing)
 unfolding levelOf
 level-live x h = go (isRunnable x) h (both (not (isDormant x)) (not (isSuspended x) && not (isWaiting x)))
   where
     go : (b : Bool) → 1 ≤ cond b (x .priority) 0 → (T b → T (not (isDormant x)) × T (not (isSuspended x) && not (isWaiting x)))
-        → (1 ≤ x .active) × (x .wait ≡ nothing)
-    go true h r = (some-of (x .active) (r tt .0), none-of (x .wait) (both (not (isSuspended x)) (not (isWaiting x)) (r tt .1) .1))
+        → (1 ≤ x .active) × (x .wait .kind ≡ nothing)
+    go true h r = (some-of (x .active) (r tt .0), none-of (x .wait .kind) (both (not (isSuspended x)) (not (isWaiting x)) (r tt .1) .1))
     go false h r = absurd (omega arith)
 
 pub row-live : (x : Task) → SoundTask x → 1 ≤ rowOf x → 1 ≤ x .active
@@ -105,29 +106,29 @@ sound-created p o low top = go (eqb o 0)
     go false = sound-activated (dormant p) (sound-dormant p low top) low
 
 -- ---- records of a live task
--- the clauses of what a wait asks for: for w, on object o, pattern p in mode m
-record SoundAsk (w o p m : ℕ) : Type 0 where
-  flag : w ≡ aFlag → (1 ≤ o) × (o ≤ 8)
-  asks : w ≡ aFlag → (1 ≤ p) × (m ≤ 1)
-  silent : (w ≡ aFlag → ⊥) → (p ≡ 0) × (m ≡ 0)
+-- the clauses of what a wait asks for
+record SoundAsk (w : Wait) : Type 0 where
+  flag : w .kind ≡ aFlag → (1 ≤ w .object) × (w .object ≤ 8)
+  asks : w .kind ≡ aFlag → (1 ≤ w .pattern) × (w .mode ≤ 1)
+  silent : (w .kind ≡ aFlag → ⊥) → (w .pattern ≡ 0) × (w .mode ≡ 0)
 
 -- no other wait asks for anything
-unasked : (w o : ℕ) → (w ≡ aFlag → ⊥) → SoundAsk w o 0 0
-unasked w o other = record { flag = λ e. absurd (other e); asks = λ e. absurd (other e); silent = λ n. (refl, refl) }
+unasked : (w : Wait) → (w .kind ≡ aFlag → ⊥) → (w .pattern ≡ 0) × (w .mode ≡ 0) → SoundAsk w
+unasked w other none = record { flag = λ e. absurd (other e); asks = λ e. absurd (other e); silent = λ n. none }
 
--- the clauses of a wait: for w, with r ticks left, on object o, asking for pattern p in mode m, at n wakeups, code v and bits b
-record SoundWait (w r o p m n v b : ℕ) : Type 0 where
-  wait : (w ≡ nothing) ⊎ ((w ≡ aSleep) ⊎ ((w ≡ aSemaphore) ⊎ (w ≡ aFlag)))
-  waiting : (w ≡ nothing → ⊥) → (1 ≤ r) × (v ≡ 0) × (b ≡ 0)
-  free : w ≡ nothing → (r ≡ 0) × (o ≡ 0)
-  sleeper : w ≡ aSleep → (n ≡ 0) × (o ≡ 0)
-  object : w ≡ aSemaphore → (1 ≤ o) × (o ≤ 12)
-  ask : SoundAsk w o p m
+-- the clauses of a wait, at n wakeups, code v and bits b
+record SoundWait (w : Wait) (n v b : ℕ) : Type 0 where
+  wait : (w .kind ≡ nothing) ⊎ ((w .kind ≡ aSleep) ⊎ ((w .kind ≡ aSemaphore) ⊎ (w .kind ≡ aFlag)))
+  waiting : (w .kind ≡ nothing → ⊥) → (1 ≤ w .remaining) × (v ≡ 0) × (b ≡ 0)
+  free : w .kind ≡ nothing → (w .remaining ≡ 0) × (w .object ≡ 0)
+  sleeper : w .kind ≡ aSleep → (n ≡ 0) × (w .object ≡ 0)
+  object : w .kind ≡ aSemaphore → (1 ≤ w .object) × (w .object ≤ 12)
+  ask : SoundAsk w
 
 module _ (x : Task) (k : SoundTask x) (live : 1 ≤ x .active) where
   -- it stays what it was created as, and live
   still : (y : Task) → y .base ≡ x .base → y .active ≡ x .active → (1 ≤ y .priority) × (y .priority ≤ 30) → y .suspended ≤ 1 → y .wakeups ≤ 1 → y .activations ≤ 1
-      → T (isWaitCode (y .code)) → SoundWait (y .wait) (y .remaining) (y .object) (y .pattern) (y .mode) (y .wakeups) (y .code) (y .handed) → SoundTask y
+      → T (isWaitCode (y .code)) → SoundWait (y .wait) (y .wakeups) (y .code) (y .handed) → SoundTask y
   still y same lives priority suspended wakeups activations code w = record {
     blank = λ e. absurd (omega (arith, live-made x k live));
     base = rw same (k .base);
@@ -152,10 +153,10 @@ module _ (x : Task) (k : SoundTask x) (live : 1 ≤ x .active) where
   priority-now = k .priority (live-made x k live)
 
   -- the wait stays as it was
-  ask-now : SoundAsk (x .wait) (x .object) (x .pattern) (x .mode)
+  ask-now : SoundAsk (x .wait)
   ask-now = record { flag = k .flag; asks = k .asks; silent = k .silent }
 
-  wait-now : SoundWait (x .wait) (x .remaining) (x .object) (x .pattern) (x .mode) (x .wakeups) (x .code) (x .handed)
+  wait-now : SoundWait (x .wait) (x .wakeups) (x .code) (x .handed)
   wait-now = record { wait = k .wait; waiting = k .waiting; free = k .free; sleeper = k .sleeper; object = k .object; ask = ask-now }
 
   pub sound-withPriority : (p : ℕ) → 1 ≤ p → p ≤ 30 → SoundTask (withPriority x p)
@@ -168,45 +169,45 @@ module _ (x : Task) (k : SoundTask x) (live : 1 ≤ x .active) where
   sound-withActivations n h = still (withActivations x n) refl refl priority-now (k .suspended) (k .wakeups) h (k .code) wait-now
 
   -- a sleeper's wakeup count is 0
-  pub sound-withWakeups : (n : ℕ) → n ≤ 1 → (x .wait ≡ aSleep → n ≡ 0) → SoundTask (withWakeups x n)
+  pub sound-withWakeups : (n : ℕ) → n ≤ 1 → (x .wait .kind ≡ aSleep → n ≡ 0) → SoundTask (withWakeups x n)
   sound-withWakeups n h awake =
       still (withWakeups x n) refl refl priority-now (k .suspended) h (k .activations) (k .code)
       (record { wait = k .wait; waiting = k .waiting; free = k .free; sleeper = λ e. (awake e, k .sleeper e .1); object = k .object; ask = ask-now })
 
-  pub sound-withRemaining : (d : ℕ) → 1 ≤ d → (x .wait ≡ nothing → ⊥) → SoundTask (withRemaining x d)
+  pub sound-withRemaining : (d : ℕ) → 1 ≤ d → (x .wait .kind ≡ nothing → ⊥) → SoundTask (withRemaining x d)
   sound-withRemaining d some waits =
       still (withRemaining x d) refl refl priority-now (k .suspended) (k .wakeups) (k .activations) (k .code)
-      (record { wait = k .wait; waiting = λ n. (some, k .waiting n .1, k .waiting n .2); free = λ e. absurd (waits e); sleeper = k .sleeper; object = k .object; ask = ask-now })
+      (record { wait = k .wait; waiting = λ n. (some, k .waiting n .1, k .waiting n .2); free = λ e. absurd (waits e); sleeper = k .sleeper; object = k .object; ask = record { flag = k .flag; asks = k .asks; silent = k .silent } })
 
   pub sound-ended : (v b : ℕ) → T (isWaitCode v) → SoundTask (ended x v b)
   sound-ended v b h =
       still (ended x v b) refl refl priority-now (k .suspended) (k .wakeups) (k .activations) h
-      (record { wait = inl refl; waiting = λ n. absurd (n refl); free = λ e. (refl, refl); sleeper = λ e. absurd (omega arith); object = λ e. absurd (omega arith); ask = unasked nothing 0 (λ e. omega arith) })
+      (record { wait = inl refl; waiting = λ n. absurd (n refl); free = λ e. (refl, refl); sleeper = λ e. absurd (omega arith); object = λ e. absurd (omega arith); ask = unasked noWait (λ e. omega arith) (refl, refl) })
 
   -- a wait begins
-  begins : (w o d p m : ℕ) → SoundWait w d o p m (x .wakeups) 0 0 → SoundTask (waiting x w o d p m)
-  begins w o d p m sound = still (waiting x w o d p m) refl refl priority-now (k .suspended) (k .wakeups) (k .activations) tt sound
+  begins : (w : Wait) → SoundWait w (x .wakeups) 0 0 → SoundTask (waiting x w)
+  begins w sound = still (waiting x w) refl refl priority-now (k .suspended) (k .wakeups) (k .activations) tt sound
 
-  pub sound-asleep : (d : ℕ) → 1 ≤ d → x .wakeups ≡ 0 → SoundTask (waiting x aSleep 0 d 0 0)
+  pub sound-asleep : (d : ℕ) → 1 ≤ d → x .wakeups ≡ 0 → SoundTask (waiting x (asleep d))
   sound-asleep d some none =
-      begins aSleep 0 d 0 0
-      (record { wait = inr (inl refl); waiting = λ n. (some, refl, refl); free = λ e. absurd (omega arith); sleeper = λ e. (none, refl); object = λ e. absurd (omega arith); ask = unasked aSleep 0 (λ e. omega arith) })
+      begins (asleep d)
+      (record { wait = inr (inl refl); waiting = λ n. (some, refl, refl); free = λ e. absurd (omega arith); sleeper = λ e. (none, refl); object = λ e. absurd (omega arith); ask = unasked (asleep d) (λ e. omega arith) (refl, refl) })
 
-  pub sound-queued : (m d : ℕ) → 1 ≤ m → m ≤ 12 → 1 ≤ d → SoundTask (waiting x aSemaphore m d 0 0)
+  pub sound-queued : (m d : ℕ) → 1 ≤ m → m ≤ 12 → 1 ≤ d → SoundTask (waiting x (onSemaphore m d))
   sound-queued m d low top some =
-      begins aSemaphore m d 0 0
-      (record { wait = inr (inr (inl refl)); waiting = λ n. (some, refl, refl); free = λ e. absurd (omega arith); sleeper = λ e. absurd (omega arith); object = λ e. (low, top); ask = unasked aSemaphore m (λ e. omega arith) })
+      begins (onSemaphore m d)
+      (record { wait = inr (inr (inl refl)); waiting = λ n. (some, refl, refl); free = λ e. absurd (omega arith); sleeper = λ e. absurd (omega arith); object = λ e. (low, top); ask = unasked (onSemaphore m d) (λ e. omega arith) (refl, refl) })
 
-  pub sound-asking : (f d p m : ℕ) → 1 ≤ f → f ≤ 8 → 1 ≤ d → 1 ≤ p → m ≤ 1 → SoundTask (waiting x aFlag f d p m)
-  sound-asking f d p m low top some bits mode =
-      let ask : SoundAsk aFlag f p m = record { flag = λ e. (low, top); asks = λ e. (bits, mode); silent = λ n. absurd (n refl) } in
-      begins aFlag f d p m
+  pub sound-asking : (f p m d : ℕ) → 1 ≤ f → f ≤ 8 → 1 ≤ d → 1 ≤ p → m ≤ 1 → SoundTask (waiting x (onFlag f p m d))
+  sound-asking f p m d low top some bits mode =
+      let ask : SoundAsk (onFlag f p m d) = record { flag = λ e. (low, top); asks = λ e. (bits, mode); silent = λ n. absurd (n refl) } in
+      begins (onFlag f p m d)
       (record { wait = inr (inr (inr refl)); waiting = λ n. (some, refl, refl); free = λ e. absurd (omega arith); sleeper = λ e. absurd (omega arith); object = λ e. absurd (omega arith); ask = ask })
 
   pub sound-told : (w : News) → SoundTask (told w x)
   unfolding told
   sound-told Deleted = sound-ended dlt 0 tt
-  sound-told (Bits b) = go (isMet (x .pattern) (x .mode) b)
+  sound-told (Bits b) = go (isMet (x .wait .pattern) (x .wait .mode) b)
     where
       go : (met : Bool) → SoundTask (cond met (ended x served b) x)
       go true = sound-ended served b tt
@@ -216,21 +217,21 @@ module _ (x : Task) (k : SoundTask x) (live : 1 ≤ x .active) where
 -- a deletion lets nobody wait on, and bits those whom they do not meet
 abbrev pub Stays : News → Task → Type 0
 Stays Deleted x = ⊥
-Stays (Bits b) x = isMet (x .pattern) (x .mode) b ≡ false
+Stays (Bits b) x = isMet (x .wait .pattern) (x .wait .mode) b ≡ false
 
 pub told-stays : (w : News) (x : Task) → (rowOf (told w x) ≡ 0) ⊎ (Stays w x × (told w x ≡ x))
 unfolding told rowOf
 told-stays Deleted x = inl refl
-told-stays (Bits b) x = go (isMet (x .pattern) (x .mode) b) refl
+told-stays (Bits b) x = go (isMet (x .wait .pattern) (x .wait .mode) b) refl
   where
-    go : (met : Bool) → isMet (x .pattern) (x .mode) b ≡ met → (rowOf (cond met (ended x served b) x) ≡ 0) ⊎ ((isMet (x .pattern) (x .mode) b ≡ false) × (cond met (ended x served b) x ≡ x))
+    go : (met : Bool) → isMet (x .wait .pattern) (x .wait .mode) b ≡ met → (rowOf (cond met (ended x served b) x) ≡ 0) ⊎ ((isMet (x .wait .pattern) (x .wait .mode) b ≡ false) × (cond met (ended x served b) x ≡ x))
     go true e = inl refl
     go false e = inr (e, refl)
 
 pub told-live : (w : News) (x : Task) → told w x .active ≡ x .active
 unfolding told
 told-live Deleted x = refl
-told-live (Bits b) x = go (isMet (x .pattern) (x .mode) b)
+told-live (Bits b) x = go (isMet (x .wait .pattern) (x .wait .mode) b)
   where
     go : (met : Bool) → cond met (ended x served b) x .active ≡ x .active
     go true = refl
@@ -246,32 +247,32 @@ code-out x = go (isAsleep x)
 
 pub sound-aged : (x : Task) → SoundTask x → SoundTask (aged x)
 unfolding aged
-sound-aged x k = go (isTimed x) (eqb (x .remaining) 1) (λ h. both (not (eqb (x .remaining) 0)) (not (eqb (x .remaining) endless)) h .0) refl
+sound-aged x k = go (isTimed x) (eqb (x .wait .remaining) 1) (λ h. both (not (eqb (x .wait .remaining) 0)) (not (eqb (x .wait .remaining) endless)) h .0) refl
   where
     -- who has ticks left waits
-    waits : 1 ≤ x .remaining → x .wait ≡ nothing → ⊥
+    waits : 1 ≤ x .wait .remaining → x .wait .kind ≡ nothing → ⊥
     waits some e = omega (arith, k .free e)
 
-    go : (a b : Bool) → (T a → T (not (eqb (x .remaining) 0))) → eqb (x .remaining) 1 ≡ b
-        → SoundTask (cond a (cond b (ended x (ranOut x) 0) (withRemaining x (x .remaining - 1))) x)
-    go true true timed e = sound-ended x k (waiting-live x k (waits (some-of (x .remaining) (timed tt)))) (ranOut x) 0 (code-out x)
+    go : (a b : Bool) → (T a → T (not (eqb (x .wait .remaining) 0))) → eqb (x .wait .remaining) 1 ≡ b
+        → SoundTask (cond a (cond b (ended x (ranOut x) 0) (withRemaining x (x .wait .remaining - 1))) x)
+    go true true timed e = sound-ended x k (waiting-live x k (waits (some-of (x .wait .remaining) (timed tt)))) (ranOut x) 0 (code-out x)
     go true false timed e =
-        let some : 1 ≤ x .remaining = some-of (x .remaining) (timed tt) in
-        let more : x .remaining ≡ 1 → ⊥ = eqb-false (x .remaining) 1 e in
-        sound-withRemaining x k (waiting-live x k (waits some)) (x .remaining - 1) (omega arith) (waits some)
+        let some : 1 ≤ x .wait .remaining = some-of (x .wait .remaining) (timed tt) in
+        let more : x .wait .remaining ≡ 1 → ⊥ = eqb-false (x .wait .remaining) 1 e in
+        sound-withRemaining x k (waiting-live x k (waits some)) (x .wait .remaining - 1) (omega arith) (waits some)
     go false b timed e = k
 
 -- x waits where y does, asking for the same
 abbrev pub WaitsAs : Task → Task → Type 0
-WaitsAs x y = (rowOf x ≡ rowOf y) × (x .pattern ≡ y .pattern) × (x .mode ≡ y .mode)
+WaitsAs x y = (rowOf x ≡ rowOf y) × (x .wait .pattern ≡ y .wait .pattern) × (x .wait .mode ≡ y .wait .mode)
 
 -- no tick makes anyone wait
 pub aged-row : (x : Task) → (rowOf (aged x) ≡ 0) ⊎ WaitsAs (aged x) x
 unfolding aged rowOf
-aged-row x = go (isTimed x) (eqb (x .remaining) 1)
+aged-row x = go (isTimed x) (eqb (x .wait .remaining) 1)
   where
     z : Bool → Bool → Task
-    z a b = cond a (cond b (ended x (ranOut x) 0) (withRemaining x (x .remaining - 1))) x
+    z a b = cond a (cond b (ended x (ranOut x) 0) (withRemaining x (x .wait .remaining - 1))) x
 
     go : (a b : Bool) → (rowOf (z a b) ≡ 0) ⊎ WaitsAs (z a b) x
     go true true = inl refl

@@ -1,6 +1,6 @@
 -- Who runs: the first of the first row that is not empty, found row by row, and in a sound state a live task that waits for nothing.
 -- It rests on `bestFrom` of model/specs/Row and the tables' laws in Listed.
-use mathlib.Core.Path.{_≡_, refl, sym, _∙_}
+use mathlib.Core.Path.{_≡_, refl}
 use mathlib.Core.List.{List, [], _∷_}
 use mathlib.Core.Logic.{⊎-elim}
 use Prim.Native.Nat.{ℕ, zero, suc, _+_, _≤_, _<_}
@@ -9,23 +9,23 @@ use native.Mathlib.Nat.{eq-or-lt-of-le}
 use lib.Dec.{T}
 use borrow.Author.Tests.{eq-eqb, ne-eqb}
 use Rattle.model.specs.declared.State.{State}
+use Rattle.model.specs.declared.Queue.{Queue}
 use Rattle.model.specs.Row.{first, row, firstOf, bestFrom}
 use Rattle.model.specs.Task.{nothing, levelOf}
 use Rattle.model.specs.State.{task, running}
 use Rattle.model.specs.Test.{zeros, listsOnly, padded}
 use Rattle.model.specs.Sound.{Sound}
 use Rattle.laws.proofs.Number.{same?}
-use Rattle.laws.proofs.Table.{first-row}
 use Rattle.kept.proofs.Listed.{key-first}
 use Rattle.kept.proofs.Changes.{task-in}
 use Rattle.kept.proofs.Records.{level-live}
 
 -- the best of n rows from row l on: nobody, or who stands first in row i
-pub data Best (ls : List ℕ) (n l : ℕ) : ℕ → Type 0 where
+pub data Best (ls : List Queue) (n l : ℕ) : ℕ → Type 0 where
   nobody : ((i : ℕ) → l ≤ i → i < l + n → firstOf ls i ≡ 0) → Best ls n l 0
   stands : (i : ℕ) → l ≤ i → i < l + n → (firstOf ls i ≡ 0 → ⊥) → ((j : ℕ) → l ≤ j → j < i → firstOf ls j ≡ 0) → Best ls n l (firstOf ls i)
 
-pub best : (n l : ℕ) (ls : List ℕ) → Best ls n l (bestFrom n l ls)
+pub best : (n l : ℕ) (ls : List Queue) → Best ls n l (bestFrom n l ls)
 unfolding bestFrom
 best zero l ls = nobody (λ i low top. absurd (omega arith))
 best (suc n) l ls = ⊎-elim
@@ -44,9 +44,9 @@ best (suc n) l ls = ⊎-elim
     later e (stands i low top some more) = stands i (omega arith) (omega arith) some (here e i more)
 
 -- a row where nobody stands first is all zeros
-pub row-empty : (ls : List ℕ) (l : ℕ) → T (padded (row ls l)) → firstOf ls l ≡ 0 → T (zeros (row ls l))
+pub row-empty : (ls : List Queue) (l : ℕ) → T (padded (row ls l)) → firstOf ls l ≡ 0 → T (zeros (row ls l))
 unfolding zeros listsOnly
-row-empty ls l h e = go (row ls l) h (sym (first-row ls l) ∙ e)
+row-empty ls l h e = go (row ls l) h e
   where
     go : (q : List ℕ) → T (padded q) → first q ≡ 0 → T (zeros q)
     go [] h e = tt
@@ -57,7 +57,7 @@ pub record Runner (s : State) : Type 0 where
   pub low : 1 ≤ running s
   pub top : running s ≤ 24
   pub live : 1 ≤ task s (running s) .active
-  pub idle : task s (running s) .wait ≡ nothing
+  pub idle : task s (running s) .wait .kind ≡ nothing
 
 pub runner : (s : State) → Sound s → 1 ≤ running s → Runner s
 unfolding running levelOf

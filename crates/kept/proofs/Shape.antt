@@ -1,6 +1,6 @@
 -- A plan has one of two shapes: a refusal, which changes nothing, or an accepted call, whose effect fits where the state is sound.
 -- Here is what the tests of a plan give to its shape; Shapes and FlagShapes go over the services.
-use mathlib.Core.Path.{_≡_, sym, _∙_}
+use mathlib.Core.Path.{_≡_}
 use mathlib.Core.Bool.{Bool, true, false, cond, not}
 use mathlib.Core.Logic.{_⊎_, ⊎-elim}
 use Prim.Native.Nat.{ℕ, _≤_}
@@ -20,7 +20,6 @@ use Rattle.model.specs.Code.{isRefusal}
 use Rattle.model.specs.Plan.{within, isTask, refused, need, checked}
 use Rattle.model.specs.Test.{occ}
 use Rattle.model.specs.Sound.{SoundTask, Sound}
-use Rattle.laws.proofs.Table.{first-row}
 use Rattle.laws.proofs.Padded.{both, first-none}
 use Rattle.kept.proofs.Listed.{listed-in}
 use Rattle.kept.proofs.Records.{WaitsAs, some-of}
@@ -64,7 +63,7 @@ module _ (s : State) where
   no-waiter k m low top e t f =
       let i = waiter-in s k t (omega arith) .0 in
       let there : occ t (row (s .waits) m) ≡ 1 = listed-in (s .waits) 21 (λ t. rowOf (task s t)) (k .waits) m t (omega arith) i low f in
-      omega (arith, first-none (row (s .waits) m) (k .waits .ends m (omega arith)) (sym (first-row (s .waits) m) ∙ e) t i)
+      omega (arith, first-none (row (s .waits) m) (k .waits .ends m (omega arith)) e t i)
 
   pub runs : T (not (eqb (running s) 0)) → Sound s → Runner s
   runs h k = runner s k (some-of (running s) h)

@@ -15,12 +15,14 @@ use Rattle.model.specs.declared.Call.{Call}
 use Rattle.model.specs.declared.Call.the-variants.{TaskCreate, TaskDelete, TaskActivate, TaskIactivate, TaskExit, TaskTerminate, TaskSuspend, TaskResume, TaskSleep, TaskWakeup, TaskIwakeup, TaskReleaseWait, TaskIreleaseWait, TaskChangePriority}
 use Rattle.model.specs.declared.Call.the-variants.{SysTsliceTicks, TickIntProcessing, SemCreate, SemDelete, SemSignal, SemIsignal, SemAcquire, SemPolling, SemIpolling, Event}
 use Rattle.model.specs.Row.{firstOf}
+use Rattle.model.specs.Flag.{flagRow}
 use Rattle.model.specs.Task.{isCreated, isDormant, isSuspended, isWaiting, isAsleep, aSleep, aSemaphore, served, released, endless, rowOf}
-use Rattle.model.specs.Task.{noTask, dormant, activated, created, withPriority, withSuspended, withWakeups, withActivations, waiting, ended}
-use Rattle.model.specs.State.{task, count, maximum, semaphore, running}
+use Rattle.model.specs.Task.{asleep, onSemaphore, noTask, dormant, activated, created, withPriority, withSuspended, withWakeups, withActivations, waiting, ended}
+use Rattle.model.specs.State.{task, count, maximum, semaphore, flag, running}
 use Rattle.model.specs.Plan.{isTask, isPriority, isSemaphore, isMaximum, isTimeout, isSlice, isMade}
 use Rattle.model.specs.Service.{create, delete, activate, exit, terminate, suspend, resume, sleep, wakeup, releaseWait, wanted, changePriority, tsliceTicks, tick, semCreate, semDelete, signal, acquire, polling}
-use Rattle.model.specs.Call.{inT, inI, plan, planned}
+use Rattle.model.specs.Services.{isMine}
+use Rattle.model.specs.Call.{named, subject, plan, planned}
 use Rattle.model.specs.Sound.{Sound}
 use Rattle.laws.proofs.Padded.{both}
 use Rattle.laws.proofs.Record.{sound-none}
@@ -92,7 +94,7 @@ module _ (s : State) where
   shape-sleep : (mine : Bool) (d : ℕ) → Shape s (sleep mine d (running s) (task s (running s)))
   unfolding sleep rowOf
   shape-sleep mine d = let t = running s in checks (isTimeout d) true mine _ (λ h _. needs (not (eqb t 0)) _ _ tt (λ some. picks (eqb (task s t .wakeups) 0) _ _
-      (λ e. accepts _ _ _ tt (λ k. let r = runs s some k in let x = waiting (task s t) aSleep 0 d 0 0 in
+      (λ e. accepts _ _ _ tt (λ k. let r = runs s some k in let x = waiting (task s t) (asleep d) in
       moves t x (r .low) (r .top) (sound-asleep (task s t) (k .tasks t) (r .live) d (range 1 d endless h .0) (eqb→eq (task s t .wakeups) 0 e)) (may-none s t x refl)))
       (λ _. accepts _ _ _ tt (λ k. let r = runs s some k in let x = withWakeups (task s t) 0 in
       moves t x (r .low) (r .top) (sound-withWakeups (task s t) (k .tasks t) (r .live) 0 (omega arith) (λ _. refl)) (may-same s k t x (refl, refl, refl))))))
@@ -102,12 +104,12 @@ module _ (s : State) where
   shape-wakeup mine t = checks (isTask t) (isCreated (task s t)) mine _ (λ h _. needs (not (isDormant (task s t))) _ _ tt (λ live. picks (isAsleep (task s t)) _ _
       (λ _. accepts _ _ _ tt (changes s t h (ended (task s t) served 0) (inl refl) (λ y. sound-ended (task s t) y (some-of (task s t .active) live) served 0 tt)))
       (λ awake. needs (eqb (task s t .wakeups) 0) _ _ tt (λ _. accepts _ _ _ tt (changes s t h (withWakeups (task s t) 1) (inr (refl, refl, refl))
-      (λ y. sound-withWakeups (task s t) y (some-of (task s t .active) live) 1 (omega arith) (λ e. absurd (T-not (isAsleep (task s t)) awake (rw (eq-eqb (task s t .wait) aSleep e) tt)))))))))
+      (λ y. sound-withWakeups (task s t) y (some-of (task s t .active) live) 1 (omega arith) (λ e. absurd (T-not (isAsleep (task s t)) awake (rw (eq-eqb (task s t .wait .kind) aSleep e) tt)))))))))
 
   shape-releaseWait : (mine : Bool) (t : ℕ) → Shape s (releaseWait mine t (task s t))
   unfolding releaseWait rowOf
   shape-releaseWait mine t = checks (isTask t) (isCreated (task s t)) mine _ (λ h _. needs (isWaiting (task s t)) _ _ tt (λ waits. accepts _ _ _ tt
-      (changes s t h (ended (task s t) released 0) (inl refl) (λ y. sound-ended (task s t) y (waiting-live (task s t) y (λ e. omega (arith, some-of (task s t .wait) waits))) released 0 tt))))
+      (changes s t h (ended (task s t) released 0) (inl refl) (λ y. sound-ended (task s t) y (waiting-live (task s t) y (λ e. omega (arith, some-of (task s t .wait .kind) waits))) released 0 tt))))
 
   shape-changePriority : (mine : Bool) (t p : ℕ) → Shape s (changePriority mine t p (task s t))
   unfolding changePriority rowOf
@@ -136,7 +138,7 @@ module _ (s : State) where
       let c = both (leb n v) (not (isMade (semaphore s m))) (b .1) in
       let i = range 1 m 12 (a .0) in
       accepts _ _ _ tt (λ k. counts m n v (i .0) (leb→le n v (c .0)) (range 1 v 65535 (b .0) .1)
-      (λ t e. omega (arith, k .waited m t (i .0) (i .1) e .1, none-of (maximum s m) (c .1)))))
+      (λ t e. omega (arith, k .semaphores .waited m t (i .0) (i .1) e .1, none-of (maximum s m) (c .1)))))
 
   shape-semDelete : (mine : Bool) (m : ℕ) → Shape s (semDelete mine m (semaphore s m))
   unfolding semDelete
@@ -146,7 +148,7 @@ module _ (s : State) where
   unfolding signal rowOf
   shape-signal mine m = let t = firstOf (s .waits) m in checks (isSemaphore m) (isMade (semaphore s m)) mine _ (λ h made. picks (eqb t 0) _ _
       (λ e. needs (ltb (count s m) (maximum s m)) _ _ tt (λ less. accepts _ _ _ tt (λ k. let i = range 1 m 12 h in
-      counts m (count s m + 1) (maximum s m) (i .0) (omega (arith, ltb→lt (count s m) (maximum s m) less)) (k .maxima m) (λ u f. absurd (no-waiter s k m (i .0) (omega (arith, i .1)) (eqb→eq t 0 e) u f)))))
+      counts m (count s m + 1) (maximum s m) (i .0) (omega (arith, ltb→lt (count s m) (maximum s m) less)) (k .semaphores .maxima m) (λ u f. absurd (no-waiter s k m (i .0) (omega (arith, i .1)) (eqb→eq t 0 e) u f)))))
       (λ some. accepts _ _ _ tt (λ k.
       let i = range 1 m 12 h in
       let e = key-first (s .waits) 21 (λ u. rowOf (task s u)) (k .waits) m (omega arith) (λ z. omega (arith, some-of t some)) .1 in
@@ -157,14 +159,14 @@ module _ (s : State) where
   takes : (m : ℕ) → T (isSemaphore m) → T (not (eqb (count s m) 0)) → Sound s → Fit s (Counts m (count s m - 1) (maximum s m))
   takes m h some k =
       let i = range 1 m 12 h in
-      counts m (count s m - 1) (maximum s m) (i .0) (omega (arith, k .counts m)) (k .maxima m) (λ t e. omega (arith, k .waited m t (i .0) (i .1) e, some-of (count s m) some))
+      counts m (count s m - 1) (maximum s m) (i .0) (omega (arith, k .semaphores .counts m)) (k .semaphores .maxima m) (λ t e. omega (arith, k .semaphores .waited m t (i .0) (i .1) e, some-of (count s m) some))
 
   shape-acquire : (mine : Bool) (m d : ℕ) → Shape s (acquire mine m d (running s) (task s (running s)) (semaphore s m))
   unfolding acquire rowOf
   shape-acquire mine m d = let t = running s in checks (isSemaphore m && isTimeout d) (isMade (semaphore s m)) mine _ (λ h made. let a = both (isSemaphore m) (isTimeout d) h in
       needs (not (eqb t 0)) _ _ tt (λ some. picks (eqb (count s m) 0) _ _
       (λ e. accepts _ _ _ tt (λ k. let r = runs s some k in let i = range 1 m 12 (a .0) in
-      moves t (waiting (task s t) aSemaphore m d 0 0) (r .low) (r .top) (sound-queued (task s t) (k .tasks t) (r .live) m d (i .0) (i .1) (range 1 d endless (a .1) .0))
+      moves t (waiting (task s t) (onSemaphore m d)) (r .low) (r .top) (sound-queued (task s t) (k .tasks t) (r .live) m d (i .0) (i .1) (range 1 d endless (a .1) .0))
       (record {
         waited = λ n low top f. rw (← f) (eqb→eq (count s m) 0 e, some-of (maximum s m) made);
         unmet = λ f low top z. absurd (omega (arith, i .1));
@@ -177,29 +179,34 @@ module _ (s : State) where
   shape-polling mine m = checks (isSemaphore m) (isMade (semaphore s m)) mine _ (λ h _. needs (not (eqb (count s m) 0)) _ _ tt (λ some. accepts _ _ _ tt (takes m h some)))
 
 -- ---- every call
+shapes : (s : State) (mine : Bool) (a : Call)
+    → Shape s (plan mine a (running s) (task s (subject a (running s) (firstOf (s .waits) (named a)) (firstOf (s .waits) (flagRow (named a))))) (semaphore s (named a)) (flag s (named a)))
+unfolding plan
+shapes s mine (TaskCreate t p o) = shape-create s mine t p o
+shapes s mine (TaskDelete t) = shape-delete s mine t
+shapes s mine (TaskActivate t) = shape-activate s mine t
+shapes s mine (TaskIactivate t) = shape-activate s mine t
+shapes s mine TaskExit = shape-exit s mine
+shapes s mine (TaskTerminate t) = shape-terminate s mine t
+shapes s mine (TaskSuspend t) = shape-suspend s mine t
+shapes s mine (TaskResume t) = shape-resume s mine t
+shapes s mine (TaskSleep d) = shape-sleep s mine d
+shapes s mine (TaskWakeup t) = shape-wakeup s mine t
+shapes s mine (TaskIwakeup t) = shape-wakeup s mine t
+shapes s mine (TaskReleaseWait t) = shape-releaseWait s mine t
+shapes s mine (TaskIreleaseWait t) = shape-releaseWait s mine t
+shapes s mine (TaskChangePriority t p) = shape-changePriority s mine t p
+shapes s mine (SysTsliceTicks l v) = shape-tsliceTicks s mine l v
+shapes s mine TickIntProcessing = shape-tick s mine
+shapes s mine (SemCreate m n v) = shape-semCreate s mine m n v
+shapes s mine (SemDelete m) = shape-semDelete s mine m
+shapes s mine (SemSignal m) = shape-signal s mine m
+shapes s mine (SemIsignal m) = shape-signal s mine m
+shapes s mine (SemAcquire m d) = shape-acquire s mine m d
+shapes s mine (SemPolling m) = shape-polling s mine m
+shapes s mine (SemIpolling m) = shape-polling s mine m
+shapes s mine (Event f e) = shape-event s mine f e
+
 pub shape : (s : State) (c : Context) (a : Call) → Shape s (planned s c a)
-unfolding planned plan
-shape s c (TaskCreate t p o) = shape-create s (inT c) t p o
-shape s c (TaskDelete t) = shape-delete s (inT c) t
-shape s c (TaskActivate t) = shape-activate s (inT c) t
-shape s c (TaskIactivate t) = shape-activate s (inI c) t
-shape s c TaskExit = shape-exit s (inT c)
-shape s c (TaskTerminate t) = shape-terminate s (inT c) t
-shape s c (TaskSuspend t) = shape-suspend s (inT c) t
-shape s c (TaskResume t) = shape-resume s (inT c) t
-shape s c (TaskSleep d) = shape-sleep s (inT c) d
-shape s c (TaskWakeup t) = shape-wakeup s (inT c) t
-shape s c (TaskIwakeup t) = shape-wakeup s (inI c) t
-shape s c (TaskReleaseWait t) = shape-releaseWait s (inT c) t
-shape s c (TaskIreleaseWait t) = shape-releaseWait s (inI c) t
-shape s c (TaskChangePriority t p) = shape-changePriority s (inT c) t p
-shape s c (SysTsliceTicks l v) = shape-tsliceTicks s (inT c) l v
-shape s c TickIntProcessing = shape-tick s (inI c)
-shape s c (SemCreate m n v) = shape-semCreate s (inT c) m n v
-shape s c (SemDelete m) = shape-semDelete s (inT c) m
-shape s c (SemSignal m) = shape-signal s (inT c) m
-shape s c (SemIsignal m) = shape-signal s (inI c) m
-shape s c (SemAcquire m d) = shape-acquire s (inT c) m d
-shape s c (SemPolling m) = shape-polling s (inT c) m
-shape s c (SemIpolling m) = shape-polling s (inI c) m
-shape s c (Event f e) = shape-event s c f e
+unfolding planned
+shape s c a = shapes s (isMine c a) a

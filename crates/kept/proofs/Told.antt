@@ -33,9 +33,9 @@ may-none s t x e = record {
 
 pub may-same : (s : State) → Sound s → (t : ℕ) (x : Task) → WaitsAs x (task s t) → MayWait s t x
 may-same s k t x e = record {
-  waited = λ m some top f. k .waited m t some top (sym (e .0) ∙ f);
-  unmet = λ i some top f. rw (e .1, e .2) (k .unmet i t some top (sym (e .0) ∙ f));
-  single = λ i u some top one f g. k .single i u t some top one g (sym (e .0) ∙ f);
+  waited = λ m some top f. k .semaphores .waited m t some top (sym (e .0) ∙ f);
+  unmet = λ i some top f. rw (e .1, e .2) (k .flags .unmet i t some top (sym (e .0) ∙ f));
+  single = λ i u some top one f g. k .flags .single i u t some top one g (sym (e .0) ∙ f);
 }
 
 -- who is listed by a semaphore or a flag is one of the tasks
@@ -50,11 +50,11 @@ record Queue (w : News) (m : ℕ) (q : List ℕ) (s : State) : Type 0 where
   lives : (t : ℕ) → 1 ≤ t → 1 ≤ occ t q → (t ≤ 24) × (1 ≤ task s t .active)
   holds : (t : ℕ) → 1 ≤ t → rowOf (task s t) ≡ m → (1 ≤ occ t q) ⊎ Stays w (task s t)
 
--- all have been told; flags keep their attributes
+-- all have been told; no number changed
 pub record Told (w : News) (m : ℕ) (s s′ : State) : Type 0 where
   pub sound : Sound s′
   pub stays : (t : ℕ) → 1 ≤ t → rowOf (task s′ t) ≡ m → Stays w (task s′ t)
-  pub kept : s′ .attributes ≡ s .attributes
+  pub kept : s′ .numbers ≡ s .numbers
 
 module _ (w : News) (m : ℕ) (some : 1 ≤ m) where
   -- the first is told
@@ -77,7 +77,7 @@ module _ (w : News) (m : ℕ) (some : 1 ≤ m) where
       may : MayWait s t x
       may = ⊎-elim
           (may-none s t x)
-          (λ (z : Stays w (task s t) × (x ≡ task s t)). may-same s (k .sound) t x (ap rowOf (z .1), ap (λ (y : Task). y .pattern) (z .1), ap (λ (y : Task). y .mode) (z .1)))
+          (λ (z : Stays w (task s t) × (x ≡ task s t)). may-same s (k .sound) t x (ap rowOf (z .1), ap (λ (y : Task). y .wait .pattern) (z .1), ap (λ (y : Task). y .wait .mode) (z .1)))
           (told-stays w (task s t))
 
       cases : (P : Task → Type 0) (u : ℕ) → (u ≡ t → P x) → ((u ≡ t → ⊥) → P (task s u)) → P (task (moved t x s) u)

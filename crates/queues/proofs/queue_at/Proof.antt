@@ -29,8 +29,8 @@ add-byte-at c = search needs
 byte-at-requires : tie.Need-byte-at-requires Inv-loop μ-loop
 byte-at-requires c κs = search needs
 
-array-write-places : tie.Need-array-write-places Inv-loop μ-loop
-array-write-places c = search needs
+array-write-q : tie.Need-array-write-q Inv-loop μ-loop
+array-write-q c = search needs
 
 add-i : tie.Need-add-i Inv-loop μ-loop
 add-i c = search needs
@@ -54,7 +54,7 @@ queue-at-spec =
     loop-holds
     add-byte-at
     byte-at-requires
-    array-write-places
+    array-write-q
     add-i
     loop-less
     loop-again

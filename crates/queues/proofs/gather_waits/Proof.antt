@@ -1,5 +1,6 @@
 use Prim.Native.Nat.{_≤_, _+_, _*_, _-_}
-use mathlib.Core.Path.{_≡_, refl, sym, _∙_}
+use mathlib.Core.Path.{_≡_, refl, sym, ap, _∙_}
+use Rattle.model.specs.Row.{asQueue}
 use borrow.Author.Needs.{needs}
 use native.Mathlib.Nat.{add-zero}
 use native.Mathlib.Omega.{arith}
@@ -8,14 +9,14 @@ use lib.Seq.{sets}
 use Rattle.queues.specs.Queues.{places, queuesOf}
 use Rattle.queues.proofs.Bridge as bridge
 use Rattle.queues.proofs.Copied as law
-use Rattle.queues.proofs.gather.Statement.{statement}
-use Rattle.queues.proofs.gather.Tie as tie
+use Rattle.queues.proofs.gather_waits.Statement.{statement}
+use Rattle.queues.proofs.gather_waits.Tie as tie
 
 abbrev Inv-loop : tie.InvT-loop
-Inv-loop flat f r₀ l₀ r l = (l ≤ 31) × (length f ≡ 744) × (length r ≡ 31) × (take l r ≡ take l (queuesOf 31 f))
+Inv-loop flat f r₀ l₀ r l = (l ≤ 21) × (length f ≡ 504) × (length r ≡ 21) × (take l r ≡ take l (queuesOf 21 f))
 
 abbrev μ-loop : tie.MeasureT-loop
-μ-loop flat f r₀ l₀ r l = 31 - l
+μ-loop flat f r₀ l₀ r l = 21 - l
 
 loop-holds : tie.Need-loop-holds Inv-loop μ-loop
 loop-holds c = (omega arith, search needs, refl, refl)
@@ -39,13 +40,13 @@ loop-less : tie.Need-loop-less Inv-loop μ-loop
 loop-less c = search needs
 
 loop-again : tie.Need-loop-again Inv-loop μ-loop
-loop-again c = let l = c .before .before .loop in (omega arith, l .inv .1, simp length-set (l .inv .2), law.fills _ _ 31 _ _ (l .inv .2) (bridge.length-queues 31 0 _) (c .before .loop-test .taken) (c .queue-at .ensures ∙ law.places-row 31 _ _ (l .inv .1) (c .before .loop-test .taken) ∙ sym (bridge.queue-at 31 _ _ _ (c .before .loop-test .taken))) (l .inv .3))
+loop-again c = let l = c .before .before .loop in (omega arith, l .inv .1, simp length-set (l .inv .2), law.fills _ _ 21 _ _ (l .inv .2) (bridge.length-queues 21 0 _) (c .before .loop-test .taken) (c .queue-at .ensures ∙ ap asQueue (law.places-row 21 _ _ (l .inv .1) (c .before .loop-test .taken)) ∙ sym (bridge.queue-at 21 _ _ _ (c .before .loop-test .taken))) (l .inv .3))
 
 returns : tie.Need-returns Inv-loop μ-loop
-returns c = let l = c .before .loop in law.full _ _ 31 (l .l) (l .inv .2) (bridge.length-queues 31 0 _) (c .loop-test .left) (l .inv .3)
+returns c = let l = c .before .loop in law.full _ _ 21 (l .l) (l .inv .2) (bridge.length-queues 21 0 _) (c .loop-test .left) (l .inv .3)
 
-pub gather-spec : {M : Type 1} → statement M
-gather-spec =
+pub gather-waits-spec : {M : Type 1} → statement M
+gather-waits-spec =
     tie.close
     (tie.spec
     Inv-loop

@@ -8,14 +8,14 @@ use lib.Seq.{sets}
 use Rattle.queues.specs.Queues.{places, queuesOf}
 use Rattle.queues.proofs.Bridge as bridge
 use Rattle.queues.proofs.Copied as law
-use Rattle.queues.proofs.spread.Statement.{statement}
-use Rattle.queues.proofs.spread.Tie as tie
+use Rattle.queues.proofs.spread_waits.Statement.{statement}
+use Rattle.queues.proofs.spread_waits.Tie as tie
 
 abbrev Inv-loop : tie.InvT-loop
-Inv-loop qs f₀ l₀ f l = (l ≤ 31) × (length f ≡ 744) × (length qs ≡ 31) × (take l (queuesOf 31 f) ≡ take l qs)
+Inv-loop qs f₀ l₀ f l = (l ≤ 21) × (length f ≡ 504) × (length qs ≡ 21) × (take l (queuesOf 21 f) ≡ take l qs)
 
 abbrev μ-loop : tie.MeasureT-loop
-μ-loop qs f₀ l₀ f l = 31 - l
+μ-loop qs f₀ l₀ f l = 21 - l
 
 loop-holds : tie.Need-loop-holds Inv-loop μ-loop
 loop-holds c = (omega arith, search needs, search needs, refl)
@@ -39,13 +39,13 @@ loop-less : tie.Need-loop-less Inv-loop μ-loop
 loop-less c = search needs
 
 loop-again : tie.Need-loop-again Inv-loop μ-loop
-loop-again c = let l = c .before .before .before .before .before .before .loop in (omega arith, c .before .f2 .given ∙ l .inv .1, l .inv .2, law.puts (l .f) (c .before .before .before .before .before .before .before .before .args .t2) (l .l) _ _ _ (l .inv .1) (l .inv .2) (c .before .before .before .before .before .loop-test .taken) refl (c .before .before .put-queue .ensures) (l .inv .3))
+loop-again c = let l = c .before .before .before .before .before .before .loop in (omega arith, c .before .f2 .given ∙ l .inv .1, l .inv .2, law.puts 21 (l .f) (c .before .before .before .before .before .before .before .before .args .t2) (l .l) _ _ _ (l .inv .1) (l .inv .2) (c .before .before .before .before .before .loop-test .taken) refl (c .before .before .put-queue .ensures) (l .inv .3))
 
 returns : tie.Need-returns Inv-loop μ-loop
-returns c = let l = c .before .loop in (law.full _ _ 31 (l .l) (bridge.length-queues 31 0 (l .f)) (l .inv .2) (c .loop-test .left) (l .inv .3), l .inv .1)
+returns c = let l = c .before .loop in law.full _ _ 21 (l .l) (bridge.length-queues 21 0 (l .f)) (l .inv .2) (c .loop-test .left) (l .inv .3)
 
-pub spread-spec : {M : Type 1} → statement M
-spread-spec =
+pub spread-waits-spec : {M : Type 1} → statement M
+spread-waits-spec =
     tie.close
     (tie.spec
     Inv-loop

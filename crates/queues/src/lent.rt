@@ -1,0 +1,57 @@
+// The levels and the waits as they are lent: read and changed where they lie, with contracts that speak of queues.
+// As a slice a table tells the prover its length, which the bridge in proofs/ asks for; each function rests on rows.
+ghost use mathlib.Core.Path.{_≡_};
+ghost use Rattle.model.specs.Row.{turned, row, firstOf, withRow, relisted, bestFrom};
+ghost use Rattle.queues.specs.Queues.{queuesOf};
+use crate::queue_at;
+
+// ---- levels
+// The first task of the best level that is not empty, or 0.
+pub fn best(levels: &[u8; 744]) -> u8
+    ensures { λ r. ⌜ r ≡ bestFrom 30 1 (queuesOf 31 (now (levels .entry))) ⌝ }
+{
+    let ls: &[u8] = levels;
+    rows::best(ls)
+}
+
+// A task leaves level f and goes last in level g.
+pub fn relist_levels(levels: &mut [u8; 744], f: usize, g: usize, t: u8)
+    ensures { λ r. ⌜ queuesOf 31 (now (levels .exit)) ≡ relisted (queuesOf 31 (now (levels .entry))) f g t ⌝ }
+{
+    let ls: &mut [u8] = levels;
+    rows::relist(ls, f, g, t);
+}
+
+// The first of a level becomes last.
+pub fn turn_level(levels: &mut [u8; 744], l: usize)
+    ensures { λ r. ⌜ queuesOf 31 (now (levels .exit)) ≡ withRow (queuesOf 31 (now (levels .entry))) l (turned (row (queuesOf 31 (now (levels .entry))) l)) ⌝ }
+{
+    let ls: &mut [u8] = levels;
+    rows::turn_row(ls, l);
+}
+
+// ---- waits
+// The task that stands first in a row, or 0.
+pub fn first_waiter(waits: &[u8; 504], l: usize) -> u8
+    ensures { λ r. ⌜ r ≡ firstOf (queuesOf 21 (now (waits .entry))) l ⌝ }
+{
+    let ls: &[u8] = waits;
+    rows::first_of(ls, l)
+}
+
+// A task leaves row f and goes last in row g.
+pub fn relist_waits(waits: &mut [u8; 504], f: usize, g: usize, t: u8)
+    ensures { λ r. ⌜ queuesOf 21 (now (waits .exit)) ≡ relisted (queuesOf 21 (now (waits .entry))) f g t ⌝ }
+{
+    let ls: &mut [u8] = waits;
+    rows::relist(ls, f, g, t);
+}
+
+// A row as it stands.
+pub fn waiters(waits: &[u8; 504], l: u8) -> [u8; 24]
+    ensures { λ r. ⌜ r ≡ row (queuesOf 21 (now (waits .entry))) l ⌝ }
+{
+    let ls: &[u8] = waits;
+    let q = queue_at(ls, l);
+    q.places
+}
