@@ -7,7 +7,6 @@ use Prim.Native.Nat.{ℕ, zero, suc, _+_}
 use lib.Dec.{ltb, leb}
 use lib.ListN.{getD, set, take, drop}
 use Rattle.model.specs.declared.Numbers.{Numbers}
-use Rattle.model.specs.State.{numbered}
 
 -- n places of a table, from place a on
 unfoldable pub part : ℕ → ℕ → List ℕ → List ℕ
@@ -37,7 +36,3 @@ heldIn ns = record {
   bits = part 97 9 ns;
   time = getD (part 106 1 ns) 0 0;
 }
-
--- the numbers with v at place i of the part that k names, or as the time: what a change of the state's numbers makes of them
-abbrev pub noted : ℕ → ℕ → ℕ → Numbers → Numbers
-noted k i v x = numbered k i v (record { tasks = []; levels = []; waits = []; numbers = x }) .numbers

@@ -3,8 +3,8 @@
 ghost use mathlib.Core.Path.{_≡_};
 ghost use lib.ListN.{getD, set, length};
 ghost use lib.Seq.{sets};
-ghost use Rattle.numbers.specs.Numbers.{part, stored, places, heldIn, noted};
-ghost use Rattle.model.specs.State.{ofSlices, ofCharges, ofCounts, ofMaxima, ofAttributes, ofBits, ofTime};
+ghost use Rattle.numbers.specs.Numbers.{part, stored, places, heldIn};
+ghost use Rattle.model.specs.State.{noted, ofSlices, ofCharges, ofCounts, ofMaxima, ofAttributes, ofBits, ofTime};
 use model::Numbers;
 
 // ---- where each part begins,
