@@ -7,8 +7,10 @@ use Prim.Native.Nat.{ℕ, zero, suc, _≤_, _<_}
 use native.Mathlib.Decide.{ℕ-discrete}
 use native.Mathlib.Omega.{arith}
 use lib.Dec.{eqb}
-use lib.ListN.{getD, set, take, drop}
+use lib.ListN.{getD, set}
 use borrow.Author.Tests.{eq-eqb, ne-eqb, eqb-true}
+use Rattle.model.specs.declared.Queue.{Queue}
+use Rattle.model.specs.Row.{row}
 use Rattle.model.specs.Test.{below, everyRow, occ, zeros, listsOnly, isListed}
 
 -- ---- tests
@@ -97,11 +99,10 @@ listsOnly-more f g (x ∷ q) k h = elim (ℕ-discrete x 0) [
       (listsOnly-more f g q (λ t p o. k t p (omega (arith, occ-tail t x q))) (b .1)))
 ]
 
-pub everyRow-more : (f g : ℕ → List ℕ → Bool) (n l : ℕ) (ls : List ℕ) → ((m : ℕ) (q : List ℕ) → l ≤ m → f m q ≡ true → g m q ≡ true)
-    → everyRow n l f ls ≡ true → everyRow n l g ls ≡ true
+pub everyRow-more : (f g : ℕ → List ℕ → Bool) (n l : ℕ) (qs : List Queue) → ((m : ℕ) (q : List ℕ) → l ≤ m → f m q ≡ true → g m q ≡ true)
+    → everyRow n l f qs ≡ true → everyRow n l g qs ≡ true
 unfolding everyRow
-everyRow-more f g zero l ls k h = refl
-everyRow-more f g (suc n) l ls k h =
-    let b = both (f l (take 24 ls)) (everyRow n (suc l) f (drop 24 ls)) h in
-    and-both (g l (take 24 ls)) (everyRow n (suc l) g (drop 24 ls)) (k l (take 24 ls) (omega arith) (b .0))
-    (everyRow-more f g n (suc l) (drop 24 ls) (λ m q p. k m q (omega arith)) (b .1))
+everyRow-more f g zero l qs k h = refl
+everyRow-more f g (suc n) l qs k h =
+    let b = both (f l (row qs l)) (everyRow n (suc l) f qs) h in
+    and-both (g l (row qs l)) (everyRow n (suc l) g qs) (k l (row qs l) (omega arith) (b .0)) (everyRow-more f g n (suc l) qs (λ m q p. k m q (omega arith)) (b .1))

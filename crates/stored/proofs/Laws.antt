@@ -12,7 +12,7 @@ use lib.ListN.{getD, set, length, take, length-set, List·getD-eq-default}
 use lib.Seq.{getD-set-same, getD-set-other, ext-getD, take-suc, take-suc-set, take-all}
 use Rattle.model.specs.declared.Task.{Task}
 use Rattle.model.specs.Task.{noTask, withRemaining}
-use Rattle.stored.specs.Stored.{recordAt, recordsFrom, tasksOf}
+use Rattle.stored.specs.Stored.{recordAt, recordsFrom, tasksOf, withOwn, withWaits, wordsWith}
 
 -- ---- a record is read
 length-from : (b w : List ℕ) (n a : ℕ) → length (recordsFrom n a b w) ≡ n
@@ -69,15 +69,7 @@ bytesOf x = x .base ∷ x .priority ∷ x .active ∷ x .suspended ∷ x .wakeup
 abbrev wordsOf : Task → List ℕ
 wordsOf x = x .wait .remaining ∷ x .wait .pattern ∷ x .handed ∷ []
 
--- the bytes with a record stored from place i on, and the words with that of task t
-abbrev pub bytesWith : List ℕ → ℕ → Task → List ℕ
-bytesWith b i x =
-    set (set (set (set (set (set (set (set (set (set b i (x .base)) (i + 1) (x .priority)) (i + 2) (x .active)) (i + 3) (x .suspended)) (i + 4) (x .wakeups)) (i + 5) (x .activations)) (i + 6) (x .code)) (i + 7) (x .wait .kind)) (i + 8) (x .wait .object)) (i + 9) (x .wait .mode)
-
-abbrev pub wordsWith : List ℕ → ℕ → Task → List ℕ
-wordsWith w t x = set (set (set w t (x .wait .remaining)) (t + 25) (x .wait .pattern)) (t + 50) (x .handed)
-
-bytes-stores : (b : List ℕ) (i : ℕ) (x : Task) → bytesWith b i x ≡ stores b i 0 (bytesOf x)
+bytes-stores : (b : List ℕ) (i : ℕ) (x : Task) → withWaits (withOwn b i x) i x ≡ stores b i 0 (bytesOf x)
 unfolding stores
 bytes-stores b i x = ap (λ (k : ℕ). stores (set b k (x .base)) i 1 (x .priority ∷ x .active ∷ x .suspended ∷ x .wakeups ∷ x .activations ∷ x .code ∷ x .wait .kind ∷ x .wait .object ∷ x .wait .mode ∷ [])) (sym (add-zero i))
 
@@ -151,7 +143,7 @@ word-there w t x h i k a c =
     ∙ getD-set-other (set w t (x .wait .remaining)) (t + 25) (i + c * 25) (x .wait .pattern) 0 (λ e. a (omega arith))
     ∙ getD-set-other w t (i + c * 25) (x .wait .remaining) 0 (λ e. a (omega arith))
 
-pub wrote : (b w : List ℕ) (t : ℕ) (x : Task) → length b ≡ 250 → length w ≡ 75 → t < 25 → tasksOf (bytesWith b (t * 10) x) (wordsWith w t x) ≡ set (tasksOf b w) t x
+pub wrote : (b w : List ℕ) (t : ℕ) (x : Task) → length b ≡ 250 → length w ≡ 75 → t < 25 → tasksOf (withWaits (withOwn b (t * 10) x) (t * 10) x) (wordsWith w t x) ≡ set (tasksOf b w) t x
 wrote b w t x m n h = rw (bytes-stores b (t * 10) x) (replaced b w b′ w′ t x h here there)
   where
     b′ : List ℕ

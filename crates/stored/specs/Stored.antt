@@ -1,8 +1,8 @@
 -- The records of all tasks as two tables of plain numbers, which can be lent where a table of records can't: ten bytes for
 -- each task, task 0 first, and three words, all tasks' first words first. What the two tables say is the table of records.
 use mathlib.Core.List.{List, [], _∷_}
-use Prim.Native.Nat.{ℕ, zero, suc, _+_, _*_}
-use lib.ListN.{getD}
+use Prim.Native.Nat.{ℕ, zero, suc, _+_, _*_, _<_}
+use lib.ListN.{getD, set}
 use Rattle.model.specs.declared.Task.{Task}
 
 -- the record that the tables hold of task t
@@ -33,3 +33,21 @@ recordsFrom (suc n) t bytes words = recordAt bytes words t ∷ recordsFrom n (su
 -- the table of records that they stand for
 unfoldable pub tasksOf : List ℕ → List ℕ → List Task
 tasksOf bytes words = recordsFrom 25 0 bytes words
+
+-- the bytes with a record stored from place i on: six of its own, then the code and the wait; and the words with that of task t
+abbrev pub withOwn : List ℕ → ℕ → Task → List ℕ
+withOwn b i x =
+    set (set (set (set (set (set b i (x .base)) (i + 1) (x .priority)) (i + 2) (x .active)) (i + 3) (x .suspended)) (i + 4) (x .wakeups)) (i + 5) (x .activations)
+
+abbrev pub withWaits : List ℕ → ℕ → Task → List ℕ
+withWaits b i x = set (set (set (set b (i + 6) (x .code)) (i + 7) (x .wait .kind)) (i + 8) (x .wait .object)) (i + 9) (x .wait .mode)
+
+abbrev pub wordsWith : List ℕ → ℕ → Task → List ℕ
+wordsWith w t x = set (set (set w t (x .wait .remaining)) (t + 25) (x .wait .pattern)) (t + 50) (x .handed)
+
+-- the places of a record are places of tables of n: its ten bytes from place i on, and the three words of task t
+abbrev pub hasTen : ℕ → ℕ → Type 0
+hasTen i n = (i < n) × (i + 1 < n) × (i + 2 < n) × (i + 3 < n) × (i + 4 < n) × (i + 5 < n) × (i + 6 < n) × (i + 7 < n) × (i + 8 < n) × (i + 9 < n)
+
+abbrev pub hasThree : ℕ → ℕ → Type 0
+hasThree t n = (t < n) × (t + 25 < n) × (t + 50 < n)

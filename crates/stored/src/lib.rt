@@ -1,10 +1,10 @@
 // The records of all tasks in two tables of plain numbers, ten bytes for each and three words, read and changed where they lie.
 // A table of records can't be lent, these can. Each function is a definition of specs/Stored; it rests on the records.
 ghost use mathlib.Core.Path.{_≡_};
-ghost use lib.ListN.{getD, set};
+ghost use Prim.Native.Nat.{_<_};
+ghost use lib.ListN.{getD, set, length};
 ghost use Rattle.model.specs.Task.{noTask, withRemaining};
-ghost use Prim.Native.Nat.{_<_, _*_};
-ghost use Rattle.stored.specs.Stored.{recordAt, tasksOf};
+ghost use Rattle.stored.specs.Stored.{recordAt, hasTen, hasThree, withOwn, withWaits, wordsWith, tasksOf};
 use model::Task;
 use model::Wait;
 
@@ -18,6 +18,7 @@ pub fn record_at(bytes: &[u8; 250], words: &[u32; 75], t: usize) -> Task
     record_in(bytes, words, t)
 }
 
+// It reads the places of one task that is there.
 fn record_in(bytes: &[u8; 250], words: &[u32; 75], t: usize) -> Task
     requires { ⌜ t < 25 ⌝ }
     ensures { λ r. ⌜ r ≡ recordAt (now (bytes .entry)) (now (words .entry)) t ⌝ }
@@ -50,20 +51,43 @@ pub fn put_record(bytes: &mut [u8; 250], words: &mut [u32; 75], t: usize, x: Tas
     if 24 < t {
         return;
     }
-    let i = t * 10;
     // as slices, which tell the prover how long they are
     let b: &mut [u8] = bytes;
     let w: &mut [u32] = words;
+    put_own(b, t * 10, x);
+    put_wait(b, t * 10, x);
+    put_words(w, t, x);
+}
+
+// The six bytes that are no wait's,
+fn put_own(b: &mut [u8], i: usize, x: Task)
+    requires { ⌜ hasTen i (length (now b)) ⌝ }
+    ensures { λ r. ⌜ now (b .exit) ≡ withOwn (now (b .entry)) i x ⌝ }
+{
     b[i] = x.base;
     b[i + 1] = x.priority;
     b[i + 2] = x.active;
     b[i + 3] = x.suspended;
     b[i + 4] = x.wakeups;
     b[i + 5] = x.activations;
+}
+
+// the wait code and what is waited for,
+fn put_wait(b: &mut [u8], i: usize, x: Task)
+    requires { ⌜ hasTen i (length (now b)) ⌝ }
+    ensures { λ r. ⌜ now (b .exit) ≡ withWaits (now (b .entry)) i x ⌝ }
+{
     b[i + 6] = x.code;
     b[i + 7] = x.wait.kind;
     b[i + 8] = x.wait.object;
     b[i + 9] = x.wait.mode;
+}
+
+// and the words.
+fn put_words(w: &mut [u32], t: usize, x: Task)
+    requires { ⌜ hasThree t (length (now w)) ⌝ }
+    ensures { λ r. ⌜ now (w .exit) ≡ wordsWith (now (w .entry)) t x ⌝ }
+{
     w[t] = x.wait.remaining;
     w[t + 25] = x.wait.pattern;
     w[t + 50] = x.handed;

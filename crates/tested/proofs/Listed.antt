@@ -1,23 +1,24 @@
 -- The test of a table of queues says that its rows list exactly the tasks with their keys, once each.
--- Rests on Says and on the laws of rows.
-use mathlib.Core.Path.{_≡_, refl, sym, _∙_, subst}
+-- Rests on Says and on the laws of rows and tables.
+use mathlib.Core.Path.{_≡_, refl, sym, ap, _∙_, subst}
 use mathlib.Core.Bool.{Bool, true, false}
 use mathlib.Core.List.{List, [], _∷_}
 use mathlib.Core.Logic.{_⊎_, inl, inr, ⊎-elim}
-use Prim.Native.Nat.{ℕ, zero, suc, _+_, _*_, _≤_, _<_}
+use Prim.Native.Nat.{ℕ, zero, suc, _+_, _≤_, _<_}
+use native.Mathlib.Nat.{eq-or-lt-of-le}
 use native.Mathlib.Omega.{arith}
-use lib.Dec.{T}
-use lib.ListN.{length, take, drop}
-use lib.Seq.{drop-drop}
+use lib.Dec.{T, eqb}
+use lib.ListN.{length}
 use borrow.Author.Tests.{eq-eqb, ne-eqb}
+use Rattle.model.specs.declared.Queue.{Queue}
 use Rattle.model.specs.Row.{row, firstOf, secondOf}
-use Rattle.model.specs.Test.{one, everyRow, occ, listsOnly, padded, isListed, isFiled, listsExactly}
+use Rattle.model.specs.Test.{one, everyRow, areQueues, occ, listsOnly, padded, isListed, isFiled, listsExactly}
 use Rattle.model.specs.Sound.{Lists}
 use Rattle.laws.proofs.Number.{same?, below?}
 use Rattle.laws.proofs.Occ.{one-le, one-eq, one-ne, first-in}
 use Rattle.laws.proofs.Padded.{occ-zeros, first-none, second-none, second-some}
-use Rattle.laws.proofs.Table.{at-row, first-row}
-use Rattle.tested.proofs.Says.{Says, says-as, says-eq, says-not, says-and, says-or, says-below}
+use Rattle.laws.proofs.Table.{row-past}
+use Rattle.tested.proofs.Says.{Says, says-as, says-eq, says-not, says-and, says-or, says-below, everywhere}
 
 -- ---- one row
 -- whoever stands there passes, and places past the end hold 0
@@ -43,39 +44,27 @@ module _ (f : ℕ → Bool) (P : ℕ → Type 0) (h : (t : ℕ) → Says (f t) (
           (says-and (h x) rest))
 
 -- ---- each row
--- the rows behind the first
-row-behind : (ls : List ℕ) (l : ℕ) → row (drop 24 ls) l ≡ row ls (suc l)
-unfolding row
-row-behind ls l = let e : 24 + l * 24 ≡ suc l * 24 = omega arith in rw (drop-drop (l * 24) 24 ls, e)
-
-row-first : (ls : List ℕ) → row ls 0 ≡ take 24 ls
-unfolding row
-row-first ls = refl
-
 module _ (f : ℕ → List ℕ → Bool) (P : ℕ → List ℕ → Type 0) (h : (l : ℕ) (q : List ℕ) → Says (f l q) (P l q)) where
-  moved : (l m : ℕ) (p q : List ℕ) → l ≡ m → p ≡ q → P l p → P m q
-  moved l m p q e k x = rw (← e, ← k) x
-
-  says-rows : (n l : ℕ) (ls : List ℕ) → Says (everyRow n l f ls) ((i : ℕ) → i < n → P (l + i) (row ls i))
+  says-rows : (n l : ℕ) (ls : List Queue) → Says (everyRow n l f ls) ((i : ℕ) → l ≤ i → i < l + n → P i (row ls i))
   unfolding everyRow
-  says-rows zero l ls = record { yields = λ _ i k. absurd (omega arith); tests = λ _. tt }
+  says-rows zero l ls = record { yields = λ _ i low top. absurd (omega arith); tests = λ _. tt }
   says-rows (suc n) l ls = says-as
-      joins
-      (λ p. (
-        moved (l + 0) l (row ls 0) (take 24 ls) (omega arith) (row-first ls) (p 0 (omega arith)),
-        λ i k. moved (l + suc i) (suc l + i) (row ls (suc i)) (row (drop 24 ls) i) (omega arith) (sym (row-behind ls i)) (p (suc i) (omega arith)),
-      ))
-      (says-and (h l (take 24 ls)) (says-rows n (suc l) (drop 24 ls)))
-    where
-      joins : P l (take 24 ls) × ((i : ℕ) → i < n → P (suc l + i) (row (drop 24 ls) i)) → (i : ℕ) → i < suc n → P (l + i) (row ls i)
-      joins p zero k = moved l (l + 0) (take 24 ls) (row ls 0) (omega arith) (sym (row-first ls)) (p .0)
-      joins p (suc i) k = moved (suc l + i) (l + suc i) (row (drop 24 ls) i) (row ls (suc i)) (omega arith) (row-behind ls i) (p .1 i (omega arith))
+      (λ p i low top. ⊎-elim (λ (e : l ≡ i). subst (λ j. P j (row ls j)) e (p .0)) (λ (k : l < i). p .1 i k (omega arith)) (eq-or-lt-of-le low))
+      (λ p. (p l (omega arith) (omega arith), λ i low top. p i (omega arith) (omega arith)))
+      (says-and (h l (row ls l)) (says-rows n (suc l) ls))
 
-  says-every : (n : ℕ) (ls : List ℕ) → Says (everyRow n 0 f ls) ((l : ℕ) → l < n → P l (row ls l))
-  says-every n ls = says-as
-      (λ p l k. moved (0 + l) l (row ls l) (row ls l) (omega arith) refl (p l k))
-      (λ p l k. moved l (0 + l) (row ls l) (row ls l) (omega arith) refl (p l k))
-      (says-rows n 0 ls)
+  says-every : (n : ℕ) (ls : List Queue) → Says (everyRow n 0 f ls) ((l : ℕ) → l < n → P l (row ls l))
+  says-every n ls = says-as (λ p l k. p l (omega arith) (omega arith)) (λ p l low top. p l (omega arith)) (says-rows n 0 ls)
+
+-- n queues of 24 places; a number that names no row has as many
+abbrev pub Queues : ℕ → List Queue → Type 0
+Queues n ls = (length ls ≡ n) × ((l : ℕ) → length (row ls l) ≡ 24)
+
+pub says-queues : (n : ℕ) (ls : List Queue) → Says (areQueues n ls) (Queues n ls)
+says-queues n ls = says-as
+    (λ p. (p .0, everywhere (λ l. length (row ls l) ≡ 24) n (λ l h. ap length (row-past ls l (omega (arith, p .0)))) (p .1)))
+    (λ p. (p .0, λ l h. p .1 l))
+    (says-and says-eq (says-every (λ l q. eqb (length q) 24) (λ l q. length q ≡ 24) (λ l q. says-eq) n ls))
 
 -- ---- row l is where a task with this key is listed
 abbrev pub Listed : ℕ → ℕ → Type 0
@@ -98,11 +87,11 @@ one-yields {b = false} h o = absurd (omega arith)
 
 -- ---- the table
 -- what the test says, in its own order
-record Parts (ls : List ℕ) (n : ℕ) (key : ℕ → ℕ) : Type 0 where
+record Parts (ls : List Queue) (n : ℕ) (key : ℕ → ℕ) : Type 0 where
   rows : (l : ℕ) → l < n → Only (λ t. Listed l (key t)) (row ls l)
   filed : (t : ℕ) → t < 25 → (key t ≡ 0) ⊎ (occ t (row ls (key t)) ≡ 1)
 
-module _ (ls : List ℕ) (n : ℕ) (key : ℕ → ℕ) where
+module _ (ls : List Queue) (n : ℕ) (key : ℕ → ℕ) where
   says-parts : Says (listsExactly ls n key) (Parts ls n key)
   unfolding listsExactly isFiled
   says-parts = says-as
@@ -114,8 +103,8 @@ module _ (ls : List ℕ) (n : ℕ) (key : ℕ → ℕ) where
       (says-below 25 (λ t. isFiled ls key t) (λ t. (key t ≡ 0) ⊎ (occ t (row ls (key t)) ≡ 1)) (λ t. says-or says-eq says-eq)))
 
   -- a task past the tables has no key
-  parts-lists : length ls ≡ n * 24 → ((t : ℕ) → 25 ≤ t → key t ≡ 0) → Parts ls n key → Lists ls n key
-  parts-lists sized past p = record { sized = sized; exactly = exactly; ends = λ l h. p .rows l h .0 }
+  parts-lists : Queues n ls → ((t : ℕ) → 25 ≤ t → key t ≡ 0) → Parts ls n key → Lists ls n key
+  parts-lists sized past p = record { sized = sized .0; places = sized .1; exactly = exactly; ends = λ l h. p .rows l h .0 }
     where
       once : (l t : ℕ) → Listed l (key t) → occ t (row ls l) ≡ 1
       once l t k = ⊎-elim
@@ -144,7 +133,7 @@ module _ (ls : List ℕ) (n : ℕ) (key : ℕ → ℕ) where
           (same? (key (suc t)) 0)
 
   -- where the keys are rows of the table, and neither task 0 nor one past the tables has a key
-  pub lists-of-test : length ls ≡ n * 24 → ((t : ℕ) → 25 ≤ t → key t ≡ 0) → T (listsExactly ls n key) → Lists ls n key
+  pub lists-of-test : Queues n ls → ((t : ℕ) → 25 ≤ t → key t ≡ 0) → T (listsExactly ls n key) → Lists ls n key
   lists-of-test sized past h = parts-lists sized past (says-parts .yields h)
 
   pub test-of-lists : ((t : ℕ) → key t < n) → key 0 ≡ 0 → Lists ls n key → T (listsExactly ls n key)
@@ -154,26 +143,23 @@ module _ (ls : List ℕ) (n : ℕ) (key : ℕ → ℕ) where
   module _ (h : Lists ls n key) (l : ℕ) (k : l < n) where
     -- who stands first has the row's key
     pub first-listed : (firstOf ls l ≡ 0 → ⊥) → Listed l (key (firstOf ls l))
-    first-listed some =
-        let e = first-row ls l in
-        let there : 1 ≤ occ (firstOf ls l) (row ls l) = rw e (first-in (row ls l) (rw e at some)) in
-        stands h l (firstOf ls l) k (omega arith) there
+    first-listed some = stands h l (firstOf ls l) k (omega arith) (first-in (row ls l) some)
 
     -- and where someone has it, someone stands first
     pub listed-first : (t : ℕ) → 1 ≤ t → Listed l (key t) → firstOf ls l ≡ 0 → ⊥
     listed-first t some r e =
-        let none = first-none (row ls l) (h .ends l k) (sym (first-row ls l) ∙ e) t some in
+        let none = first-none (row ls l) (h .ends l k) e t some in
         omega (arith, h .exactly l t k some, one-holds (says-listed l (key t)) r)
 
     -- all who have it are one, where nobody stands second
     pub second-alone : secondOf ls l ≡ 0 → (t u : ℕ) → 1 ≤ t → 1 ≤ u → Listed l (key t) → Listed l (key u) → t ≡ u
-    second-alone e t u low some a b = second-none (row ls l) (h .ends l k) (sym (at-row ls l 1 (omega arith)) ∙ e) t u low some (there t low a) (there u some b)
+    second-alone e t u low some a b = second-none (row ls l) (h .ends l k) e t u low some (there t low a) (there u some b)
       where
         there : (v : ℕ) → 1 ≤ v → Listed l (key v) → 1 ≤ occ v (row ls l)
         there v low r = omega (arith, h .exactly l v k low, one-holds (says-listed l (key v)) r)
 
     -- and nobody stands second, where all who have it are one
     pub alone-second : ((t u : ℕ) → Listed l (key t) → Listed l (key u) → t ≡ u) → secondOf ls l ≡ 0
-    alone-second all = at-row ls l 1 (omega arith) ∙ second-some (row ls l) (h .ends l k)
+    alone-second all = second-some (row ls l) (h .ends l k)
         (λ u some. omega (arith, h .exactly l u k some, one-le (isListed l (key u))))
         (λ t u low some a b. all t u (stands h l t k low a) (stands h l u k some b))

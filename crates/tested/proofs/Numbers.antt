@@ -5,7 +5,7 @@ use mathlib.Core.Bool.{false}
 use mathlib.Core.Logic.{_⊎_}
 use Prim.Native.Nat.{ℕ, _≤_, _<_}
 use lib.Dec.{T}
-use Rattle.model.specs.declared.Task.{Task}
+use Rattle.model.specs.declared.Wait.{Wait}
 use Rattle.model.specs.Flag.{areKept, isSingle, isMet}
 use Rattle.model.specs.Task.{aFlag}
 use Rattle.model.specs.Test.{isRateSound, isCountSound, isFlagSound, isUnmet}
@@ -32,9 +32,9 @@ pub says-flag : (a b firstWaiter secondWaiter : ℕ) → Says (isFlagSound a b f
 unfolding isFlagSound
 says-flag a b firstWaiter secondWaiter = says-and (says-same (areKept a)) (says-and (says-implies says-eq (says-and says-eq says-eq)) (says-implies (says-same (isSingle a)) says-eq))
 
-abbrev pub Unmet : Task → ℕ → Type 0
-Unmet x b = x .wait ≡ aFlag → isMet (x .pattern) (x .mode) b ≡ false
+abbrev pub Unmet : Wait → ℕ → Type 0
+Unmet w b = w .kind ≡ aFlag → isMet (w .pattern) (w .mode) b ≡ false
 
-pub says-unmet : (x : Task) (b : ℕ) → Says (isUnmet x b) (Unmet x b)
+pub says-unmet : (w : Wait) (b : ℕ) → Says (isUnmet w b) (Unmet w b)
 unfolding isUnmet
-says-unmet x b = says-implies says-eq (says-false (isMet (x .pattern) (x .mode) b))
+says-unmet w b = says-implies says-eq (says-false (isMet (w .pattern) (w .mode) b))

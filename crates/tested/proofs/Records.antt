@@ -6,35 +6,49 @@ use mathlib.Core.Logic.{_⊎_, inl, inr, ⊎-elim}
 use Prim.Native.Nat.{ℕ, _≤_}
 use native.Mathlib.Omega.{arith}
 use lib.Dec.{T, eqb}
+use Rattle.model.specs.declared.Wait.{Wait}
 use Rattle.model.specs.declared.Task.{Task}
-use Rattle.model.specs.Task.{noTask, nothing, aSleep, aSemaphore, aFlag, isRunnable, levelOf}
+use Rattle.model.specs.Task.{noWait, noTask, nothing, aSleep, aSemaphore, aFlag, isRunnable, levelOf}
 use Rattle.model.specs.Plan.{isSemaphore, isFlag}
-use Rattle.model.specs.Test.{isBlank, isWaitCode, isResting, isWaitSound, isAskSound, isTaskSound}
+use Rattle.model.specs.Test.{isNoWait, isBlank, isWaitCode, isResting, isWaitSound, isAskSound, isTaskSound}
 use Rattle.model.specs.Sound.{SoundTask}
 use Rattle.laws.proofs.Number.{same?}
 use Rattle.laws.proofs.Record.{sound-none}
 use Rattle.tested.proofs.Says.{Says, says-as, says-same, says-eq, says-le, says-not, says-and, says-implies, says-cond, says-within}
 
 -- ---- all zeros
-blank : (base priority active suspended wait object wakeups activations code mode remaining pattern handed : ℕ)
-    → base ≡ 0 → priority ≡ 0 → active ≡ 0 → suspended ≡ 0 → wait ≡ 0 → object ≡ 0 → wakeups ≡ 0 → activations ≡ 0 → code ≡ 0 → mode ≡ 0 → remaining ≡ 0 → pattern ≡ 0 → handed ≡ 0
-    → _≡_ {A = Task} (record { base = base; priority = priority; active = active; suspended = suspended; wait = wait; object = object; wakeups = wakeups; activations = activations; code = code; mode = mode; remaining = remaining; pattern = pattern; handed = handed }) noTask
-blank b p a s w o u v c m r q h eb ep ea es ew eo eu ev ec em er eq eh = cc
+blank : (base priority active suspended wakeups activations code : ℕ) (wait : Wait) (handed : ℕ)
+    → base ≡ 0 → priority ≡ 0 → active ≡ 0 → suspended ≡ 0 → wakeups ≡ 0 → activations ≡ 0 → code ≡ 0 → wait ≡ noWait → handed ≡ 0
+    → _≡_ {A = Task} (record { base = base; priority = priority; active = active; suspended = suspended; wakeups = wakeups; activations = activations; code = code; wait = wait; handed = handed }) noTask
+blank b p a s u v c w h eb ep ea es eu ev ec ew eh = cc
+
+unwaiting : (kind object mode remaining pattern : ℕ) → kind ≡ 0 → object ≡ 0 → mode ≡ 0 → remaining ≡ 0 → pattern ≡ 0
+    → _≡_ {A = Wait} (record { kind = kind; object = object; mode = mode; remaining = remaining; pattern = pattern }) noWait
+unwaiting k o m r p ek eo em er ep = cc
+
+says-no-wait : (w : Wait) → Says (isNoWait w) (w ≡ noWait)
+says-no-wait w = record {
+  yields = λ t. let p = zeros .yields t in unwaiting (w .kind) (w .object) (w .mode) (w .remaining) (w .pattern) (p .0) (p .1 .0) (p .1 .1 .0) (p .1 .1 .1 .0) (p .1 .1 .1 .1);
+  tests = λ e. subst (λ (v : Wait). T (isNoWait v)) (sym e) tt;
+}
+  where
+    zeros : Says (isNoWait w) ((w .kind ≡ 0) × ((w .object ≡ 0) × ((w .mode ≡ 0) × ((w .remaining ≡ 0) × (w .pattern ≡ 0)))))
+    zeros = says-and says-eq (says-and says-eq (says-and says-eq (says-and says-eq says-eq)))
 
 pub says-blank : (x : Task) → Says (isBlank x) (x ≡ noTask)
 says-blank x = record {
-  yields = λ t. let p = zeros .yields t in let q = p .1 .1 .1 .1 .1 in let r = q .1 .1 .1 .1 in
-      blank (x .base) (x .priority) (x .active) (x .suspended) (x .wait) (x .object) (x .wakeups) (x .activations) (x .code) (x .mode) (x .remaining) (x .pattern) (x .handed)
-      (p .0) (p .1 .0) (p .1 .1 .0) (p .1 .1 .1 .0) (p .1 .1 .1 .1 .0) (q .0) (q .1 .0) (q .1 .1 .0) (q .1 .1 .1 .0) (r .0) (r .1 .0) (r .1 .1 .0) (r .1 .1 .1);
+  yields = λ t. let p = zeros .yields t in let q = p .1 .1 .1 .1 in
+      blank (x .base) (x .priority) (x .active) (x .suspended) (x .wakeups) (x .activations) (x .code) (x .wait) (x .handed)
+      (p .0) (p .1 .0) (p .1 .1 .0) (p .1 .1 .1 .0) (q .0) (q .1 .0) (q .1 .1 .0) (q .1 .1 .1 .0) (q .1 .1 .1 .1);
   tests = λ e. subst (λ (y : Task). T (isBlank y)) (sym e) tt;
 }
   where
-    zeros : Says (isBlank x) ((x .base ≡ 0) × ((x .priority ≡ 0) × ((x .active ≡ 0) × ((x .suspended ≡ 0) × ((x .wait ≡ 0) × ((x .object ≡ 0) × ((x .wakeups ≡ 0) × ((x .activations ≡ 0) × ((x .code ≡ 0) × ((x .mode ≡ 0) × ((x .remaining ≡ 0) × ((x .pattern ≡ 0) × (x .handed ≡ 0)))))))))))))
-    zeros = says-and says-eq (says-and says-eq (says-and says-eq (says-and says-eq (says-and says-eq (says-and says-eq (says-and says-eq (says-and says-eq (says-and says-eq (says-and says-eq (says-and says-eq (says-and says-eq says-eq)))))))))))
+    zeros : Says (isBlank x) ((x .base ≡ 0) × ((x .priority ≡ 0) × ((x .active ≡ 0) × ((x .suspended ≡ 0) × ((x .wakeups ≡ 0) × ((x .activations ≡ 0) × ((x .code ≡ 0) × ((x .wait ≡ noWait) × (x .handed ≡ 0)))))))))
+    zeros = says-and says-eq (says-and says-eq (says-and says-eq (says-and says-eq (says-and says-eq (says-and says-eq (says-and says-eq (says-and (says-no-wait (x .wait)) says-eq)))))))
 
 -- ---- one that is dormant, and what one waits for
 abbrev Resting : Task → Type 0
-Resting x = (x .wait ≡ nothing) × (x .suspended ≡ 0) × (x .wakeups ≡ 0) × (x .activations ≡ 0) × (x .code ≡ 0) × (x .handed ≡ 0) × (x .priority ≡ x .base)
+Resting x = (x .wait .kind ≡ nothing) × (x .suspended ≡ 0) × (x .wakeups ≡ 0) × (x .activations ≡ 0) × (x .code ≡ 0) × (x .handed ≡ 0) × (x .priority ≡ x .base)
 
 says-resting : (x : Task) → Says (isResting x) (Resting x)
 says-resting x = says-as
@@ -43,26 +57,26 @@ says-resting x = says-as
     (says-and says-eq (says-and says-eq (says-and says-eq (says-and says-eq (says-and says-eq (says-and says-eq says-eq))))))
 
 record WaitSound (x : Task) : Type 0 where
-  wait : (x .wait ≡ nothing) ⊎ ((x .wait ≡ aSleep) ⊎ ((x .wait ≡ aSemaphore) ⊎ (x .wait ≡ aFlag)))
-  waiting : (x .wait ≡ nothing → ⊥) → (1 ≤ x .remaining) × (x .code ≡ 0) × (x .handed ≡ 0)
-  free : x .wait ≡ nothing → (x .remaining ≡ 0) × (x .object ≡ 0)
-  sleeper : x .wait ≡ aSleep → (x .wakeups ≡ 0) × (x .object ≡ 0)
-  object : x .wait ≡ aSemaphore → (1 ≤ x .object) × (x .object ≤ 12)
-  flag : x .wait ≡ aFlag → (1 ≤ x .object) × (x .object ≤ 8)
+  wait : (x .wait .kind ≡ nothing) ⊎ ((x .wait .kind ≡ aSleep) ⊎ ((x .wait .kind ≡ aSemaphore) ⊎ (x .wait .kind ≡ aFlag)))
+  waiting : (x .wait .kind ≡ nothing → ⊥) → (1 ≤ x .wait .remaining) × (x .code ≡ 0) × (x .handed ≡ 0)
+  free : x .wait .kind ≡ nothing → (x .wait .remaining ≡ 0) × (x .wait .object ≡ 0)
+  sleeper : x .wait .kind ≡ aSleep → (x .wakeups ≡ 0) × (x .wait .object ≡ 0)
+  object : x .wait .kind ≡ aSemaphore → (1 ≤ x .wait .object) × (x .wait .object ≤ 12)
+  flag : x .wait .kind ≡ aFlag → (1 ≤ x .wait .object) × (x .wait .object ≤ 8)
 
 -- what the test says of a wait's object, in its own order
 abbrev Object : Task → Type 0
 Object x =
-    (x .wait ≡ aSleep → (x .object ≡ 0) × (x .wakeups ≡ 0))
-    × ((x .wait ≡ aSleep → ⊥) → (x .wait ≡ aSemaphore → (1 ≤ x .object) × (x .object ≤ 12)) × ((x .wait ≡ aSemaphore → ⊥) → (x .wait ≡ aFlag) × ((1 ≤ x .object) × (x .object ≤ 8))))
+    (x .wait .kind ≡ aSleep → (x .wait .object ≡ 0) × (x .wakeups ≡ 0))
+    × ((x .wait .kind ≡ aSleep → ⊥) → (x .wait .kind ≡ aSemaphore → (1 ≤ x .wait .object) × (x .wait .object ≤ 12)) × ((x .wait .kind ≡ aSemaphore → ⊥) → (x .wait .kind ≡ aFlag) × ((1 ≤ x .wait .object) × (x .wait .object ≤ 8))))
 
-says-object : (x : Task) → Says (cond (eqb (x .wait) aSleep) (eqb (x .object) 0 && eqb (x .wakeups) 0) (cond (eqb (x .wait) aSemaphore) (isSemaphore (x .object)) (eqb (x .wait) aFlag && isFlag (x .object)))) (Object x)
+says-object : (x : Task) → Says (cond (eqb (x .wait .kind) aSleep) (eqb (x .wait .object) 0 && eqb (x .wakeups) 0) (cond (eqb (x .wait .kind) aSemaphore) (isSemaphore (x .wait .object)) (eqb (x .wait .kind) aFlag && isFlag (x .wait .object)))) (Object x)
 says-object x = says-cond says-eq (says-and says-eq says-eq) (says-cond says-eq says-within (says-and says-eq says-within))
 
 says-wait : (x : Task) → Says (isWaitSound x) (WaitSound x)
 says-wait x = says-as
-    (λ p. let on : (x .wait ≡ nothing → ⊥) → Object x = λ n. p .1 n .1 .1 .1 in record {
-      wait = ⊎-elim (λ (e : x .wait ≡ nothing). inl e) (λ (n : x .wait ≡ nothing → ⊥). inr (waits (on n))) (same? (x .wait) nothing);
+    (λ p. let on : (x .wait .kind ≡ nothing → ⊥) → Object x = λ n. p .1 n .1 .1 .1 in record {
+      wait = ⊎-elim (λ (e : x .wait .kind ≡ nothing). inl e) (λ (n : x .wait .kind ≡ nothing → ⊥). inr (waits (on n))) (same? (x .wait .kind) nothing);
       waiting = λ n. (p .1 n .0, p .1 n .1 .0, p .1 n .1 .1 .0);
       free = λ e. (p .0 e .1, p .0 e .0);
       sleeper = λ e. let q = on (λ k. omega arith) .0 e in (q .1, q .0);
@@ -79,7 +93,7 @@ says-wait x = says-as
             w .2,
             (
               λ e. (h .sleeper e .1, h .sleeper e .0),
-              λ d. (h .object, λ c. let e : x .wait ≡ aFlag = last n d c (h .wait) in (e, h .flag e)),
+              λ d. (h .object, λ c. let e : x .wait .kind ≡ aFlag = last n d c (h .wait) in (e, h .flag e)),
             ),
           ),
         ),
@@ -87,32 +101,32 @@ says-wait x = says-as
     ))
     (says-cond says-eq (says-and says-eq says-eq) (says-and says-le (says-and says-eq (says-and says-eq (says-object x)))))
   where
-    waits : Object x → (x .wait ≡ aSleep) ⊎ ((x .wait ≡ aSemaphore) ⊎ (x .wait ≡ aFlag))
-    waits p = go (same? (x .wait) aSleep) (same? (x .wait) aSemaphore)
+    waits : Object x → (x .wait .kind ≡ aSleep) ⊎ ((x .wait .kind ≡ aSemaphore) ⊎ (x .wait .kind ≡ aFlag))
+    waits p = go (same? (x .wait .kind) aSleep) (same? (x .wait .kind) aSemaphore)
       where
-        go : (x .wait ≡ aSleep) ⊎ (x .wait ≡ aSleep → ⊥) → (x .wait ≡ aSemaphore) ⊎ (x .wait ≡ aSemaphore → ⊥) → (x .wait ≡ aSleep) ⊎ ((x .wait ≡ aSemaphore) ⊎ (x .wait ≡ aFlag))
+        go : (x .wait .kind ≡ aSleep) ⊎ (x .wait .kind ≡ aSleep → ⊥) → (x .wait .kind ≡ aSemaphore) ⊎ (x .wait .kind ≡ aSemaphore → ⊥) → (x .wait .kind ≡ aSleep) ⊎ ((x .wait .kind ≡ aSemaphore) ⊎ (x .wait .kind ≡ aFlag))
         go (inl e) b = inl e
         go (inr d) (inl e) = inr (inl e)
         go (inr d) (inr c) = inr (inr (p .1 d .1 c .0))
 
-    last : (x .wait ≡ nothing → ⊥) → (x .wait ≡ aSleep → ⊥) → (x .wait ≡ aSemaphore → ⊥) → (x .wait ≡ nothing) ⊎ ((x .wait ≡ aSleep) ⊎ ((x .wait ≡ aSemaphore) ⊎ (x .wait ≡ aFlag))) → x .wait ≡ aFlag
+    last : (x .wait .kind ≡ nothing → ⊥) → (x .wait .kind ≡ aSleep → ⊥) → (x .wait .kind ≡ aSemaphore → ⊥) → (x .wait .kind ≡ nothing) ⊎ ((x .wait .kind ≡ aSleep) ⊎ ((x .wait .kind ≡ aSemaphore) ⊎ (x .wait .kind ≡ aFlag))) → x .wait .kind ≡ aFlag
     last n d c (inl e) = absurd (n e)
     last n d c (inr (inl e)) = absurd (d e)
     last n d c (inr (inr (inl e))) = absurd (c e)
     last n d c (inr (inr (inr e))) = e
 
 -- what a flag wait asks for
-record AskSound (x : Task) : Type 0 where
-  asks : x .wait ≡ aFlag → (1 ≤ x .pattern) × (x .mode ≤ 1)
-  silent : (x .wait ≡ aFlag → ⊥) → (x .pattern ≡ 0) × (x .mode ≡ 0)
+record AskSound (w : Wait) : Type 0 where
+  asks : w .kind ≡ aFlag → (1 ≤ w .pattern) × (w .mode ≤ 1)
+  silent : (w .kind ≡ aFlag → ⊥) → (w .pattern ≡ 0) × (w .mode ≡ 0)
 
-says-ask : (x : Task) → Says (isAskSound x) (AskSound x)
-says-ask x = says-as
+says-ask : (w : Wait) → Says (isAskSound w) (AskSound w)
+says-ask w = says-as
     (λ p. record { asks = λ e. let q = p .0 e in (some (q .0), q .1); silent = p .1 })
     (λ h. (λ e. (λ z. omega (arith, h .asks e), h .asks e .1), h .silent))
     (says-cond says-eq (says-and (says-not says-eq) says-le) (says-and says-eq says-eq))
   where
-    some : (x .pattern ≡ 0 → ⊥) → 1 ≤ x .pattern
+    some : (w .pattern ≡ 0 → ⊥) → 1 ≤ w .pattern
     some n = omega arith
 
 -- ---- the whole record
@@ -120,7 +134,7 @@ says-ask x = says-as
 abbrev Made : Task → Type 0
 Made x =
     ((1 ≤ x .base) × (x .base ≤ 30)) × (((1 ≤ x .priority) × (x .priority ≤ 30)) × ((x .active ≤ 1) × ((x .suspended ≤ 1) × ((x .wakeups ≤ 1)
-    × ((x .activations ≤ 1) × (T (isWaitCode (x .code)) × ((x .active ≡ 0 → Resting x) × (WaitSound x × AskSound x))))))))
+    × ((x .activations ≤ 1) × (T (isWaitCode (x .code)) × ((x .active ≡ 0 → Resting x) × (WaitSound x × AskSound (x .wait)))))))))
 
 made-sound : (x : Task) → Made x → SoundTask x
 made-sound x p =
@@ -150,7 +164,7 @@ made-sound x p =
 sound-made : (x : Task) → SoundTask x → (x .base ≡ 0 → ⊥) → Made x
 sound-made x h n =
     let wait-sound : WaitSound x = record { wait = h .wait; waiting = h .waiting; free = h .free; sleeper = h .sleeper; object = h .object; flag = h .flag } in
-    let ask-sound : AskSound x = record { asks = h .asks; silent = h .silent } in
+    let ask-sound : AskSound (x .wait) = record { asks = h .asks; silent = h .silent } in
     let some : 1 ≤ x .base = omega arith in
     ((some, h .base), (h .priority some, (h .active, (h .suspended, (h .wakeups, (h .activations, (h .code, (h .dormant, (wait-sound, ask-sound)))))))))
 
@@ -164,7 +178,7 @@ says-task x = says-as
     (λ h. (sound-made x h, λ k. ⊎-elim (λ (e : x .base ≡ 0). h .blank e) (λ (n : x .base ≡ 0 → ⊥). absurd (k n)) (same? (x .base) 0)))
     (says-cond (says-not says-eq)
     (says-and says-within (says-and says-within (says-and says-le (says-and says-le (says-and says-le
-    (says-and says-le (says-and (says-same (isWaitCode (x .code))) (says-and (says-implies says-eq (says-resting x)) (says-and (says-wait x) (says-ask x))))))))))
+    (says-and says-le (says-and (says-same (isWaitCode (x .code))) (says-and (says-implies says-eq (says-resting x)) (says-and (says-wait x) (says-ask (x .wait)))))))))))
     (says-blank x))
 
 -- ---- the queues that list it

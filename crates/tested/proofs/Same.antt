@@ -19,19 +19,19 @@ use Rattle.laws.proofs.Record.{sound-none, row-none, row-most, flag-row, flag-n
 use Rattle.tested.proofs.Says.{Says, says-as, says-same, says-eq, says-and, says-below, everywhere}
 use Rattle.tested.proofs.Numbers.{Rate, Counted, Flagged, Unmet, says-rate, says-count, says-flag, says-unmet}
 use Rattle.tested.proofs.Records.{says-blank, says-task, level-none, level-most}
-use Rattle.tested.proofs.Listed.{Listed, lists-of-test, test-of-lists, first-listed, listed-first, second-alone, alone-second}
+use Rattle.tested.proofs.Listed.{Queues, Listed, says-queues, lists-of-test, test-of-lists, first-listed, listed-first, second-alone, alone-second}
 
 -- ---- what the test of a state says, in its own order
 record Sized (s : State) : Type 0 where
   tasks# : length (s .tasks) ≡ 25
-  levels# : length (s .levels) ≡ 744
-  waits# : length (s .waits) ≡ 504
-  slices# : length (s .slices) ≡ 31
-  charges# : length (s .charges) ≡ 31
-  counts# : length (s .counts) ≡ 13
-  maxima# : length (s .maxima) ≡ 13
-  attributes# : length (s .attributes) ≡ 9
-  bits# : length (s .bits) ≡ 9
+  levels# : Queues 31 (s .levels)
+  waits# : Queues 21 (s .waits)
+  slices# : length (s .numbers .slices) ≡ 31
+  charges# : length (s .numbers .charges) ≡ 31
+  counts# : length (s .numbers .counts) ≡ 13
+  maxima# : length (s .numbers .maxima) ≡ 13
+  attributes# : length (s .numbers .attributes) ≡ 9
+  bits# : length (s .numbers .bits) ≡ 9
 
 abbrev Origin : State → Type 0
 Origin s = (task s 0 ≡ noTask) × (slice s 0 ≡ 0) × (charge s 0 ≡ 0) × (count s 0 ≡ 0) × (maximum s 0 ≡ 0) × (attribute s 0 ≡ 0) × (bitsOf s 0 ≡ 0)
@@ -43,7 +43,7 @@ record Parts (s : State) : Type 0 where
   rates : (l : ℕ) → l < 31 → Rate (slice s l) (charge s l)
   counts : (m : ℕ) → m < 13 → Counted (count s m) (maximum s m) (firstOf (s .waits) m)
   flags : (f : ℕ) → f < 9 → Flagged (attribute s f) (bitsOf s f) (firstOf (s .waits) (flagRow f)) (secondOf (s .waits) (flagRow f))
-  unmet : (t : ℕ) → t < 25 → Unmet (task s t) (bitsOf s (task s t .object))
+  unmet : (t : ℕ) → t < 25 → Unmet (task s t .wait) (bitsOf s (task s t .wait .object))
   levels : T (listsExactly (s .levels) 31 (λ t. levelOf (task s t)))
   waits : T (listsExactly (s .waits) 21 (λ t. rowOf (task s t)))
 
@@ -62,7 +62,7 @@ module _ (s : State) where
         bits# = q .1 .1 .1 .1 .1;
       })
       (λ z. (z .tasks#, (z .levels#, (z .waits#, (z .slices#, (z .charges#, (z .counts#, (z .maxima#, (z .attributes#, z .bits#)))))))))
-      (says-and says-eq (says-and says-eq (says-and says-eq (says-and says-eq (says-and says-eq (says-and says-eq (says-and says-eq (says-and says-eq says-eq))))))))
+      (says-and says-eq (says-and (says-queues 31 (s .levels)) (says-and (says-queues 21 (s .waits)) (says-and says-eq (says-and says-eq (says-and says-eq (says-and says-eq (says-and says-eq says-eq))))))))
 
   says-origin : Says (isOrigin s) (Origin s)
   says-origin = says-as
@@ -96,7 +96,7 @@ module _ (s : State) where
       (λ f. Flagged (attribute s f) (bitsOf s f) (firstOf (s .waits) (flagRow f)) (secondOf (s .waits) (flagRow f)))
       (λ f. says-flag (attribute s f) (bitsOf s f) (firstOf (s .waits) (flagRow f)) (secondOf (s .waits) (flagRow f))))
       (says-and
-      (says-below 25 (λ t. isUnmet (task s t) (bitsOf s (task s t .object))) (λ t. Unmet (task s t) (bitsOf s (task s t .object))) (λ t. says-unmet (task s t) (bitsOf s (task s t .object))))
+      (says-below 25 (λ t. isUnmet (task s t .wait) (bitsOf s (task s t .wait .object))) (λ t. Unmet (task s t .wait) (bitsOf s (task s t .wait .object))) (λ t. says-unmet (task s t .wait) (bitsOf s (task s t .wait .object))))
       (says-and (says-same (listsExactly (s .levels) 31 (λ t. levelOf (task s t)))) (says-same (listsExactly (s .waits) 21 (λ t. rowOf (task s t))))))))))))
 
   -- ---- the statement from the parts
@@ -112,8 +112,8 @@ module _ (s : State) where
       where
         past : (l : ℕ) → 31 ≤ l → Rate (slice s l) (charge s l)
         past l h =
-            let e = List·getD-eq-default (s .slices) 0 {n = l} (omega (arith, p .sized .slices#)) in
-            let f = List·getD-eq-default (s .charges) 0 {n = l} (omega (arith, p .sized .charges#)) in
+            let e = List·getD-eq-default (s .numbers .slices) 0 {n = l} (omega (arith, p .sized .slices#)) in
+            let f = List·getD-eq-default (s .numbers .charges) 0 {n = l} (omega (arith, p .sized .charges#)) in
             (omega arith, inr (e, f))
 
     each-count : (m : ℕ) → (count s m ≤ maximum s m) × (maximum s m ≤ 65535)
@@ -121,8 +121,8 @@ module _ (s : State) where
       where
         past : (m : ℕ) → 13 ≤ m → (count s m ≤ maximum s m) × (maximum s m ≤ 65535)
         past m h =
-            let e = List·getD-eq-default (s .counts) 0 {n = m} (omega (arith, p .sized .counts#)) in
-            let f = List·getD-eq-default (s .maxima) 0 {n = m} (omega (arith, p .sized .maxima#)) in
+            let e = List·getD-eq-default (s .numbers .counts) 0 {n = m} (omega (arith, p .sized .counts#)) in
+            let f = List·getD-eq-default (s .numbers .maxima) 0 {n = m} (omega (arith, p .sized .maxima#)) in
             (omega arith, omega arith)
 
     sound-levels : Lists (s .levels) 31 (λ t. levelOf (task s t))
@@ -137,8 +137,8 @@ module _ (s : State) where
       where
         past : (f : ℕ) → 9 ≤ f → T (areKept (attribute s f)) × (attribute s f ≡ 0 → bitsOf s f ≡ 0)
         past f h =
-            let e = List·getD-eq-default (s .attributes) 0 {n = f} (omega (arith, p .sized .attributes#)) in
-            let g = List·getD-eq-default (s .bits) 0 {n = f} (omega (arith, p .sized .bits#)) in
+            let e = List·getD-eq-default (s .numbers .attributes) 0 {n = f} (omega (arith, p .sized .attributes#)) in
+            let g = List·getD-eq-default (s .numbers .bits) 0 {n = f} (omega (arith, p .sized .bits#)) in
             (rw e tt, λ _. g)
 
     -- who is listed is a task
@@ -157,7 +157,7 @@ module _ (s : State) where
         let c = p .counts m (omega arith) .1 .1 (waits-first m t h (omega arith) e) in
         (c .0, let n = c .1 in omega arith)
 
-    unmet : (f t : ℕ) → 1 ≤ f → f ≤ 8 → rowOf (task s t) ≡ f + 12 → (1 ≤ attribute s f) × (isMet (task s t .pattern) (task s t .mode) (bitsOf s f) ≡ false)
+    unmet : (f t : ℕ) → 1 ≤ f → f ≤ 8 → rowOf (task s t) ≡ f + 12 → (1 ≤ attribute s f) × (isMet (task s t .wait .pattern) (task s t .wait .mode) (bitsOf s f) ≡ false)
     unmet f t low top e =
         let w = row-flag (task s t) (each-task t) f low e in
         let made : attribute s f ≡ 0 → ⊥ = λ z. waits-first (f + 12) t (omega arith) (omega arith) e (rw (flag-row f low top) at (p .flags f (omega arith) .1 .0 z .1)) in
@@ -171,49 +171,43 @@ module _ (s : State) where
 
     parts-sound : Sound s
     parts-sound = record {
-      tasks# = p .sized .tasks#;
-      slices# = p .sized .slices#;
-      charges# = p .sized .charges#;
-      counts# = p .sized .counts#;
-      maxima# = p .sized .maxima#;
-      attributes# = p .sized .attributes#;
-      bits# = p .sized .bits#;
-      origin = p .origin;
+      tasks# = z .tasks#;
+      nobody = o .0;
       tasks = each-task;
       levels = sound-levels;
       waits = sound-waits;
-      slices = λ l. each-rate l .0;
-      charges = λ l. each-rate l .1;
-      counts = λ m. each-count m .0;
-      maxima = λ m. each-count m .1;
-      waited = waited;
-      attributes = λ f. each-flag f .0;
-      bits = λ f. each-flag f .1;
-      unmet = unmet;
-      single = single;
+      rates = record { slices# = z .slices#; charges# = z .charges#; unused = (o .1, o .2); slices = λ l. each-rate l .0; charges = λ l. each-rate l .1 };
+      semaphores = record { counts# = z .counts#; maxima# = z .maxima#; unused = (o .3, o .4); counts = λ m. each-count m .0; maxima = λ m. each-count m .1; waited = waited };
+      flags = record { attributes# = z .attributes#; bits# = z .bits#; unused = (o .5, o .6); attributes = λ f. each-flag f .0; bits = λ f. each-flag f .1; unmet = unmet; single = single };
     }
+      where
+        z : Sized s
+        z = p .sized
+
+        o : Origin s
+        o = p .origin
 
   -- ---- the parts from the statement
   module _ (h : Sound s) where
     counted : (m : ℕ) → m < 13 → Counted (count s m) (maximum s m) (firstOf (s .waits) m)
     counted m k = (
-      h .counts m,
+      h .semaphores .counts m,
       (
-        h .maxima m,
+        h .semaphores .maxima m,
         λ some.
             let r = first-listed (s .waits) 21 (λ t. rowOf (task s t)) (h .waits) m (omega arith) some in
-            let c = h .waited m (firstOf (s .waits) m) (let n = r .0 in omega arith) (omega arith) (r .1) in
+            let c = h .semaphores .waited m (firstOf (s .waits) m) (let n = r .0 in omega arith) (omega arith) (r .1) in
             (c .0, λ e. omega arith),
       ),
     )
 
     flagged : (f : ℕ) → f < 9 → Flagged (attribute s f) (bitsOf s f) (firstOf (s .waits) (flagRow f)) (secondOf (s .waits) (flagRow f))
     flagged f k = (
-      h .attributes f,
+      h .flags .attributes f,
       (
-        λ e. (h .bits f e, nobody e),
+        λ e. (h .flags .bits f e, nobody e),
         λ one. alone-second (s .waits) 21 (λ t. rowOf (task s t)) (h .waits) (flagRow f) in-table
-            (λ t u a b. let r = row-of a in h .single f t u (r .0) (omega arith) one (r .1) (row-of b .1)),
+            (λ t u a b. let r = row-of a in h .flags .single f t u (r .0) (omega arith) one (r .1) (row-of b .1)),
       ),
     )
       where
@@ -234,36 +228,36 @@ module _ (s : State) where
             (λ (z : firstOf (s .waits) (flagRow f) ≡ 0). z)
             (λ (some : firstOf (s .waits) (flagRow f) ≡ 0 → ⊥).
             let r = row-of (first-listed (s .waits) 21 (λ t. rowOf (task s t)) (h .waits) (flagRow f) in-table some) in
-            absurd (omega (arith, h .unmet f (firstOf (s .waits) (flagRow f)) (r .0) (omega arith) (r .1) .0)))
+            absurd (omega (arith, h .flags .unmet f (firstOf (s .waits) (flagRow f)) (r .0) (omega arith) (r .1) .0)))
             (same? (firstOf (s .waits) (flagRow f)) 0)
 
     -- whoever waits on a flag is listed by it
-    unmet-now : (t : ℕ) → Unmet (task s t) (bitsOf s (task s t .object))
+    unmet-now : (t : ℕ) → Unmet (task s t .wait) (bitsOf s (task s t .wait .object))
     unmet-now t e =
         let r = h .tasks t .flag e in
-        h .unmet (task s t .object) t (r .0) (r .1) (flag-waits (task s t) (h .tasks t) e) .1
+        h .flags .unmet (task s t .wait .object) t (r .0) (r .1) (flag-waits (task s t) (h .tasks t) e) .1
 
     sound-parts : Parts s
     sound-parts = record {
       sized = record {
         tasks# = h .tasks#;
-        levels# = h .levels .sized;
-        waits# = h .waits .sized;
-        slices# = h .slices#;
-        charges# = h .charges#;
-        counts# = h .counts#;
-        maxima# = h .maxima#;
-        attributes# = h .attributes#;
-        bits# = h .bits#;
+        levels# = (h .levels .sized, h .levels .places);
+        waits# = (h .waits .sized, h .waits .places);
+        slices# = h .rates .slices#;
+        charges# = h .rates .charges#;
+        counts# = h .semaphores .counts#;
+        maxima# = h .semaphores .maxima#;
+        attributes# = h .flags .attributes#;
+        bits# = h .flags .bits#;
       };
-      origin = h .origin;
+      origin = (h .nobody, h .rates .unused .0, h .rates .unused .1, h .semaphores .unused .0, h .semaphores .unused .1, h .flags .unused .0, h .flags .unused .1);
       tasks = λ t k. h .tasks t;
-      rates = λ l k. (h .slices l, h .charges l);
+      rates = λ l k. (h .rates .slices l, h .rates .charges l);
       counts = counted;
       flags = flagged;
       unmet = λ t k. unmet-now t;
-      levels = test-of-lists (s .levels) 31 (λ t. levelOf (task s t)) (λ t. omega (arith, level-most (task s t) (h .tasks t))) (ap levelOf (h .origin .0) ∙ level-none) (h .levels);
-      waits = test-of-lists (s .waits) 21 (λ t. rowOf (task s t)) (λ t. omega (arith, row-most (task s t) (h .tasks t))) (ap rowOf (h .origin .0) ∙ row-none) (h .waits);
+      levels = test-of-lists (s .levels) 31 (λ t. levelOf (task s t)) (λ t. omega (arith, level-most (task s t) (h .tasks t))) (ap levelOf (h .nobody) ∙ level-none) (h .levels);
+      waits = test-of-lists (s .waits) 21 (λ t. rowOf (task s t)) (λ t. omega (arith, row-most (task s t) (h .tasks t))) (ap rowOf (h .nobody) ∙ row-none) (h .waits);
     }
 
   says-sound : Says (isSound s) (Sound s)
