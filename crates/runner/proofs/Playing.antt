@@ -13,7 +13,7 @@ use Rattle.model.specs.declared.State.{State}
 use Rattle.model.specs.State.{fresh}
 use Rattle.model.specs.Call.{step}
 use Rattle.kernel.specs.declared.Stepped.{Stepped}
-use Rattle.effects.specs.Lent.{stateIn}
+use Rattle.tables.specs.Lent.{stateIn}
 use Rattle.lines.specs.Lines.{lineOf}
 use lib.ListN.{drop}
 use Rattle.walk.specs.declared.Turn.{Turn}

@@ -4,7 +4,7 @@ use mathlib.Core.Path.{_≡_, refl}
 use borrow.Author.Needs.{needs}
 use native.Mathlib.Omega.{arith}
 use lib.ListN.{length}
-use Rattle.effects.specs.Lent.{stateIn}
+use Rattle.tables.specs.Lent.{stateIn}
 use Rattle.runner.proofs.Playing as law
 use Rattle.runner.proofs.Playing.{Left}
 use Rattle.runner.proofs.play.Statement.{statement}
