@@ -35,11 +35,14 @@ fn is_blank(x: Task) -> bool
     let wait = x.wait;
     let no_wait = is_no_wait(wait);
     (x.base == 0)
-        & ((x.priority == 0)
-            & ((x.active == 0)
-                & ((x.suspended == 0)
-                    & ((x.wakeups == 0)
-                        & ((x.activations == 0) & ((x.code == 0) & (no_wait & (x.handed == 0))))))))
+        & (x.priority == 0)
+        & (x.active == 0)
+        & (x.suspended == 0)
+        & (x.wakeups == 0)
+        & (x.activations == 0)
+        & (x.code == 0)
+        & no_wait
+        & (x.handed == 0)
 }
 
 fn is_wait_code(v: u8) -> bool
@@ -52,10 +55,12 @@ fn is_resting(x: Task) -> bool
     ensures { λ r. ⌜ r ≡ isResting x ⌝ }
 {
     (x.wait.kind == NOTHING)
-        & ((x.suspended == 0)
-            & ((x.wakeups == 0)
-                & ((x.activations == 0)
-                    & ((x.code == 0) & ((x.handed == 0) & (x.priority == x.base))))))
+        & (x.suspended == 0)
+        & (x.wakeups == 0)
+        & (x.activations == 0)
+        & (x.code == 0)
+        & (x.handed == 0)
+        & (x.priority == x.base)
 }
 
 fn is_wait_sound(x: Task) -> bool
@@ -152,7 +157,10 @@ pub fn is_origin(
 {
     let blank = is_blank(x);
     blank
-        & ((slice == 0)
-            & ((charge == 0)
-                & ((count == 0) & ((maximum == 0) & ((attributes == 0) & (bits == 0))))))
+        & (slice == 0)
+        & (charge == 0)
+        & (count == 0)
+        & (maximum == 0)
+        & (attributes == 0)
+        & (bits == 0)
 }

@@ -1,5 +1,6 @@
 -- `sound::record::is_blank` meets its contract: field by field.
 -- Rests on model/specs/Test.
+use mathlib.Core.Bool.{and-assoc}
 use borrow.Author.Needs.{needs}
 use Rattle.sound.proofs.record.is_blank.Statement.{statement}
 use Rattle.sound.proofs.record.is_blank.Tie as tie
@@ -8,7 +9,7 @@ is-no-wait-requires : tie.Need-is-no-wait-requires
 is-no-wait-requires c κs = search needs
 
 returns : tie.Need-returns
-returns c = rw (c .before .before .before .before .before .before .before .before .is-no-wait .ensures)
+returns c = rw (c .before .before .before .before .before .before .before .before .is-no-wait .ensures) (simp and-assoc)
 
 pub is-blank-spec : {M : Type 1} → statement M
 is-blank-spec = tie.close (tie.spec is-no-wait-requires returns)

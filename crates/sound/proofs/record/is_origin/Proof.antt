@@ -1,5 +1,6 @@
 -- `sound::record::is_origin` meets its contract: place by place.
 -- Rests on model/specs/Test.
+use mathlib.Core.Bool.{and-assoc}
 use borrow.Author.Needs.{needs}
 use Rattle.sound.proofs.record.is_origin.Statement.{statement}
 use Rattle.sound.proofs.record.is_origin.Tie as tie
@@ -8,7 +9,7 @@ is-blank-requires : tie.Need-is-blank-requires
 is-blank-requires c κs = search needs
 
 returns : tie.Need-returns
-returns c = rw (c .is-blank .ensures)
+returns c = rw (c .is-blank .ensures) (simp and-assoc)
 
 pub is-origin-spec : {M : Type 1} → statement M
 is-origin-spec = tie.close (tie.spec is-blank-requires returns)
