@@ -10,9 +10,9 @@ use lib.Dec.{leb}
 use lib.ListN.{length, take, getD, set, length-map, List·getD-map}
 use lib.Seq.{take-suc, take-suc-set, take-all}
 use Rattle.model.specs.declared.Task.{Task}
-use Rattle.model.specs.Flag.{flagRow}
 use Rattle.model.specs.Task.{noTask}
 use Rattle.model.specs.Test.{below, listsExactly}
+use Rattle.queues.specs.Queues.{queuesOf}
 use Rattle.crossing.specs.Crossing.{crossesAll}
 use Rattle.crossing.proofs.Exactly.{exactly}
 
@@ -25,19 +25,6 @@ pub below-none : (f : ℕ → Bool) → true ≡ below 0 f
 unfolding below
 below-none f = refl
 
--- the length of a field that is an array of structs: for `search (len-of, needs)`
-pub len-of : (X Y : Type 0) (f : X → Y) (l : List X) (n : ℕ) → length (map f l) ≡ n → length l ≡ n
-len-of X Y f l n e = sym (length-map l f) ∙ e
-
--- a flag's row is one of the 21
-pub row-in : (f : ℕ) → f ≤ 8 → flagRow f ≤ 20
-unfolding flagRow
-row-in f h = go (leb 1 f && leb f 8)
-  where
-    go : (b : Bool) → cond b (f + 12) 0 ≤ 20
-    go true = omega arith
-    go false = omega arith
-
 -- a table that is filled from the front with what g gives of each element
 module _ {A : Type 0} (g : A → ℕ) (xs : List A) where
   pub fill-on : (w : List ℕ) (i : ℕ) (d : A) → i < length w → i < length xs → take i w ≡ take i (map g xs)
@@ -49,10 +36,10 @@ module _ {A : Type 0} (g : A → ℕ) (xs : List A) where
   fill-end w i hw hx e = sym (take-all i w hw) ∙ e ∙ take-all i (map g xs) (rw length-map hx)
 
 -- crossing off what the tasks' records want
-pub wanted-exactly : (g : Task → ℕ) (n : ℕ) (ls : List ℕ) (xs : List Task) → length xs ≡ 25 → length ls ≡ n * 24 → g noTask ≡ 0 → g (getD xs 0 noTask) ≡ 0
-    → crossesAll n 0 ls (map g xs) ≡ listsExactly ls n (λ t. g (getD xs t noTask))
-wanted-exactly g n ls xs hx hl none origin =
-    exactly n ls (map g xs) (rw length-map (omega arith)) (at 0 ∙ origin) (omega arith) (λ t. g (getD xs t noTask)) (λ t. sym (at t))
+pub wanted-exactly : (g : Task → ℕ) (n : ℕ) (ls : List ℕ) (xs : List Task) → length xs ≡ 25 → g noTask ≡ 0 → g (getD xs 0 noTask) ≡ 0
+    → crossesAll n 0 ls (map g xs) ≡ listsExactly (queuesOf n ls) n (λ t. g (getD xs t noTask))
+wanted-exactly g n ls xs hx none origin =
+    exactly n ls (map g xs) (rw length-map (omega arith)) (at 0 ∙ origin) (λ t. g (getD xs t noTask)) (λ t. sym (at t))
   where
     at : (t : ℕ) → getD (map g xs) t 0 ≡ g (getD xs t noTask)
     at t = ap (λ (d : ℕ). getD (map g xs) t d) (sym none) ∙ List·getD-map g xs t noTask

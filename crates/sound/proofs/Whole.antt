@@ -1,20 +1,30 @@
--- The test of a whole state, from its parts: a state whose origin is used is not sound, and any other is judged by its tables.
--- Rests on Tables.
-use mathlib.Core.Path.{_≡_, refl, sym, _∙_}
-use mathlib.Core.Bool.{Bool, true, false, not, _&&_, and-false, false≢true}
-use mathlib.Core.List.{map}
+-- The test of a whole state, from its parts: tables that are lent have their places, and where the origin is unused crossing off
+-- is the test of the queues. Rests on Tables and on the laws of the lent tables.
+use mathlib.Core.Path.{_≡_, refl, _∙_}
+use mathlib.Core.Bool.{Bool, true, false, _&&_, and-false, false≢true}
+use mathlib.Core.List.{List, map}
+use Prim.Native.Nat.{ℕ, zero, suc, _*_}
 use native.Mathlib.Decide.{ℕ-discrete}
+use native.Mathlib.Omega.{arith}
+use lib.Dec.{eqb}
 use lib.ListN.{length}
-use borrow.Author.Tests.{eq-eqb, ne-eqb, not-true, not-false}
+use borrow.Author.Tests.{eq-eqb, ne-eqb}
+use Rattle.model.specs.declared.Queue.{Queue}
 use Rattle.model.specs.declared.Task.{Task}
 use Rattle.model.specs.declared.State.{State}
-use Rattle.model.specs.Row.{firstOf, secondOf}
-use Rattle.model.specs.Flag.{flagRow}
+use Rattle.model.specs.Row.{row}
 use Rattle.model.specs.Task.{noTask, levelOf, rowOf}
-use Rattle.model.specs.State.{task, slice, charge, count, maximum, attribute, bitsOf}
-use Rattle.model.specs.Test.{below, isBlank, isTaskSound, isRateSound, isCountSound, isFlagSound, isUnmet, isSized, isOrigin, isSound}
+use Rattle.model.specs.State.{task}
+use Rattle.model.specs.Test.{below, everyRow, areQueues, listsExactly, isBlank, isSized, isOrigin, isSound}
+use Rattle.stored.specs.Stored.{tasksOf}
+use Rattle.stored.proofs.Laws.{length-tasks}
+use Rattle.queues.specs.Queues.{queuesOf}
+use Rattle.queues.proofs.Bridge.{length-queues, length-row-queue}
+use Rattle.numbers.proofs.Laws.{part-long}
+use Rattle.tables.specs.Lent.{stateIn}
 use Rattle.crossing.specs.Crossing.{crossesAll}
 use Rattle.crossing.proofs.Tests.{both}
+use Rattle.sound.specs.Parts.{taskAt, unmetAt, rateAt, countAt, flagAt}
 use Rattle.sound.proofs.Tables.{wanted-exactly}
 
 -- ---- a record of zeros is in no queue
@@ -28,9 +38,9 @@ module _ (x : Task) (h : isBlank x ≡ true) where
 
   blank-row : rowOf x ≡ 0
   unfolding rowOf
-  blank-row = elim (ℕ-discrete (x .wait) 0) [
+  blank-row = elim (ℕ-discrete (x .wait .kind) 0) [
     | yes e ↦ rw e
-    | no n ↦ absurd (false≢true (simp (ne-eqb (x .wait) 0 n, and-false) at h))
+    | no n ↦ absurd (false≢true (simp (ne-eqb (x .wait .kind) 0 n, and-false) at h))
   ]
 
 none-level : levelOf noTask ≡ 0
@@ -41,51 +51,60 @@ none-row : rowOf noTask ≡ 0
 unfolding rowOf
 none-row = refl
 
+-- ---- the queues that a whole table stands for have their places
+each-sized : (qs : List Queue) → ((l : ℕ) → length (row qs l) ≡ 24) → (n l : ℕ) → everyRow n l (λ l q. eqb (length q) 24) qs ≡ true
+unfolding everyRow
+each-sized qs h zero l = refl
+each-sized qs h (suc n) l = rw (h l, each-sized qs h n (suc l))
+
+queues-sized : (n : ℕ) (ls : List ℕ) → length ls ≡ n * 24 → areQueues n (queuesOf n ls) ≡ true
+queues-sized n ls h = rw (eq-eqb _ _ (length-queues n 0 ls), each-sized (queuesOf n ls) (length-row-queue n ls h) n 0)
+
 -- ---- the whole test
--- every table has its places
-pub record Sized (s : State) : Type 0 where
-  pub tasks# : length (s .tasks) ≡ 25
-  pub levels# : length (s .levels) ≡ 744
-  pub waits# : length (s .waits) ≡ 504
-  pub slices# : length (s .slices) ≡ 31
-  pub charges# : length (s .charges) ≡ 31
-  pub counts# : length (s .counts) ≡ 13
-  pub maxima# : length (s .maxima) ≡ 13
-  pub attributes# : length (s .attributes) ≡ 9
-  pub bits# : length (s .bits) ≡ 9
+-- what is left of it where the origin is unused, from what is said of the queues
+abbrev pub others : State → Bool → Bool → Bool
+others s runnable waiting =
+    below 25 (taskAt (s .tasks))
+    && (below 31 (rateAt (s .numbers))
+    && (below 13 (countAt (s .numbers) (s .waits))
+    && (below 9 (flagAt (s .numbers) (s .waits))
+    && (below 25 (unmetAt (s .tasks) (s .numbers .bits))
+    && (runnable && waiting)))))
 
--- what is left of the test where the origin is unused
-abbrev pub tested : State → Bool
-tested s =
-    below 25 (λ t. isTaskSound (task s t))
-    && (below 31 (λ l. isRateSound (slice s l) (charge s l))
-    && (below 13 (λ m. isCountSound (count s m) (maximum s m) (firstOf (s .waits) m))
-    && (below 9 (λ f. isFlagSound (attribute s f) (bitsOf s f) (firstOf (s .waits) (flagRow f)) (secondOf (s .waits) (flagRow f)))
-    && (below 25 (λ t. isUnmet (task s t) (bitsOf s (task s t .object)))
-    && (crossesAll 31 0 (s .levels) (map levelOf (s .tasks))
-    && crossesAll 21 0 (s .waits) (map rowOf (s .tasks)))))))
+-- the queues crossed off
+abbrev pub tested : State → List ℕ → List ℕ → Bool
+tested s levels waits = others s (crossesAll 31 0 levels (map levelOf (s .tasks))) (crossesAll 21 0 waits (map rowOf (s .tasks)))
 
-module _ (s : State) (origin : Bool) (same : origin ≡ isOrigin s) where
-  pub unsound-origin : not origin ≡ true → isSound s ≡ false
-  unfolding isSound
-  unsound-origin h = rw (← same, not-true origin h) (and-false (isSized s))
+module _ (b w l q n : List ℕ) (levels# : length l ≡ 744) (waits# : length q ≡ 504) (numbers# : length n ≡ 107) where
+  abbrev s : State
+  s = stateIn b w l q n
 
-  pub sound-tested : Sized s → not origin ≡ false → isSound s ≡ tested s
-  unfolding isSound
-  sound-tested z h =
-      let o = sym same ∙ not-false origin h in
-      let b = both (isBlank (task s 0)) _ o .0 in
+  sized : isSized s ≡ true
+  sized =
       rw (
-        ← wanted-exactly levelOf 31 (s .levels) (s .tasks) (z .tasks#) (z .levels#) none-level (blank-level (task s 0) b),
-        ← wanted-exactly rowOf 21 (s .waits) (s .tasks) (z .tasks#) (z .waits#) none-row (blank-row (task s 0) b),
-        o,
-        z .tasks#,
-        z .levels#,
-        z .waits#,
-        z .slices#,
-        z .charges#,
-        z .counts#,
-        z .maxima#,
-        z .attributes#,
-        z .bits#,
+        length-tasks b w,
+        queues-sized 31 l levels#,
+        queues-sized 21 q waits#,
+        part-long 0 31 n (omega arith),
+        part-long 31 31 n (omega arith),
+        part-long 62 13 n (omega arith),
+        part-long 75 13 n (omega arith),
+        part-long 88 9 n (omega arith),
+        part-long 97 9 n (omega arith),
       )
+
+  pub sound-tested : isSound s ≡ (isOrigin s && tested s l q)
+  unfolding isSound
+  sound-tested = rw sized (go (isOrigin s) refl)
+    where
+      listed : Bool
+      listed = others s (listsExactly (s .levels) 31 (λ t. levelOf (task s t))) (listsExactly (s .waits) 21 (λ t. rowOf (task s t)))
+
+      go : (o : Bool) → isOrigin s ≡ o → (o && listed) ≡ (o && tested s l q)
+      go false e = refl
+      go true e =
+          let k = both (isBlank (task s 0)) _ e .0 in
+          rw (
+            wanted-exactly levelOf 31 l (tasksOf b w) (length-tasks b w) none-level (blank-level (task s 0) k),
+            wanted-exactly rowOf 21 q (tasksOf b w) (length-tasks b w) none-row (blank-row (task s 0) k),
+          )

@@ -1,10 +1,12 @@
 // The tests of one event flag: of its numbers and first two waiters, and of a wait that its bits may not meet already.
 // Each function is a definition of model/specs/Test, for every value; it rests on model, and on records for when bits meet a wait.
 ghost use mathlib.Core.Path.{_≡_};
-ghost use lib.ListN.{getD};
+ghost use Rattle.model.specs.Row.{secondOf};
 ghost use Rattle.model.specs.Flag.{areKept};
 ghost use Rattle.model.specs.Test.{isFlagSound, isUnmet};
-use model::Task;
+ghost use Rattle.queues.specs.Queues.{queuesOf};
+use model::Wait;
+use records::FLAG;
 
 fn are_kept(attributes: u32) -> bool
     ensures { λ r. ⌜ r ≡ areKept attributes ⌝ }
@@ -20,20 +22,22 @@ pub fn flag_sound(attributes: u32, bits: u32, first: u8, second: u8) -> bool
     kept & (((attributes != 0) | ((bits == 0) & (first == 0))) & (!single | (second == 0)))
 }
 
-// A number that names no flag has no bits.
-pub fn bits_of(bits: [u32; 9], f: u8) -> u32
-    ensures { λ r. ⌜ r ≡ getD bits f 0 ⌝ }
+pub fn is_unmet(w: Wait, bits: u32) -> bool
+    ensures { λ r. ⌜ r ≡ isUnmet w bits ⌝ }
 {
-    if 9 <= f {
-        return 0;
-    }
-    bits[f as usize]
+    let kind = w.kind;
+    let met = records::is_met(w.pattern, w.mode as u32, bits);
+    (kind != FLAG) | !met
 }
 
-pub fn is_unmet(x: Task, bits: u32) -> bool
-    ensures { λ r. ⌜ r ≡ isUnmet x bits ⌝ }
+// The task that stands second in a row of the table of waits, or 0.
+pub fn second_waiter(waits: &[u8; 504], l: usize) -> u8
+    ensures { λ r. ⌜ r ≡ secondOf (queuesOf 21 (now (waits .entry))) l ⌝ }
 {
-    let wait = x.wait;
-    let met = records::is_met(x.pattern, x.mode as u32, bits);
-    (wait != 3) | !met
+    // as a slice, which tells the prover how long it is
+    let ws: &[u8] = waits;
+    if 20 < l {
+        return 0;
+    }
+    ws[l * 24 + 1]
 }

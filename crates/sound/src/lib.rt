@@ -1,159 +1,164 @@
-// The test that the public entries make of any state: whether it is sound. Each place of a queue is looked at three times at most.
-// Each function is a definition of model/specs/Test, for every value; it rests on record and flag for single places and on crossing for queues.
+// The test that the public entries make of any state: whether it is sound. Each record is read once, each place of a queue three times at most.
+// Each function is a definition of model/specs/Test, for every value; it rests on record and flag for single places, on crossing for
+// queues, and on the tables that it is lent.
 ghost use mathlib.Core.Path.{_≡_};
-ghost use mathlib.Core.List.{map};
-ghost use lib.ListN.{getD};
-ghost use Rattle.model.specs.Row.{firstOf, secondOf};
-ghost use Rattle.model.specs.Flag.{flagRow};
-ghost use Rattle.model.specs.Task.{noTask, levelOf, rowOf};
-ghost use Rattle.model.specs.Test.{below, isTaskSound, isRateSound, isCountSound, isFlagSound, isUnmet, isSound};
+ghost use Rattle.model.specs.Test.{below, isSound};
+ghost use Rattle.stored.specs.Stored.{tasksOf};
+ghost use Rattle.queues.specs.Queues.{queuesOf};
+ghost use Rattle.numbers.specs.Numbers.{heldIn};
+ghost use Rattle.tables.specs.Lent.{before};
+ghost use Rattle.sound.specs.Parts.{rateAt, countAt, flagAt, seenIn};
+use crossing::cross_all;
 use model::State;
-use model::Task;
+use numbers::attributes_at;
+use numbers::bits_at;
+use numbers::charge_at;
+use numbers::count_at;
+use numbers::maximum_at;
+use numbers::slice_at;
+use queues::lent::first_waiter;
 
 pub mod flag;
 pub mod record;
 
-// ---- records, slices, counts and flags
-fn tasks_sound(tasks: [Task; 25]) -> bool
-    ensures { λ r. ⌜ r ≡ below 25 (λ t. isTaskSound (getD tasks t noTask)) ⌝ }
-{
-    let mut sound = true;
-    let mut t: usize = 0;
-    while t < 25 {
-        let x = tasks[t];
-        let here = record::task_sound(x);
-        sound = here & sound;
-        t += 1;
-    }
-    sound
+// ---- records
+// What a walk over the records sees: whether each is sound, whether no wait on a flag is met already, and which level and which row list
+// each task.
+struct Seen {
+    sound: bool,
+    unmet: bool,
+    levels: [u8; 25],
+    rows: [u8; 25],
 }
 
-fn rates_sound(slices: [u32; 31], charges: [u32; 31]) -> bool
-    ensures { λ r. ⌜ r ≡ below 31 (λ l. isRateSound (getD slices l 0) (getD charges l 0)) ⌝ }
+fn look(bytes: &[u8; 250], words: &[u32; 75], numbers: &[u32; 107]) -> Seen
+    ensures { λ r. ⌜ r ≡ seenIn (tasksOf (now (bytes .entry)) (now (words .entry))) (heldIn (now (numbers .entry)) .bits) ⌝ }
+{
+    let mut sound = true;
+    let mut unmet = true;
+    let mut levels = [0u8; 25];
+    let mut rows = [0u8; 25];
+    let mut t: usize = 0;
+    while t < 25 {
+        let x = stored::record_at(bytes, words, t);
+        let wait = x.wait;
+        let bits = bits_at(numbers, wait.object as usize);
+        let sound_here = record::task_sound(x);
+        let unmet_here = flag::is_unmet(wait, bits);
+        let level = records::level_of(x);
+        let row = records::row_of(x);
+        sound = sound_here & sound;
+        unmet = unmet_here & unmet;
+        levels[t] = level;
+        rows[t] = row;
+        t += 1;
+    }
+    Seen {
+        sound,
+        unmet,
+        levels,
+        rows,
+    }
+}
+
+// ---- slices, counts and flags
+fn rates_sound(numbers: &[u32; 107]) -> bool
+    ensures { λ r. ⌜ r ≡ below 31 (rateAt (heldIn (now (numbers .entry)))) ⌝ }
 {
     let mut sound = true;
     let mut l: usize = 0;
     while l < 31 {
-        let here = record::rate_sound(slices[l], charges[l]);
+        let slice = slice_at(numbers, l);
+        let charge = charge_at(numbers, l);
+        let here = record::rate_sound(slice, charge);
         sound = here & sound;
         l += 1;
     }
     sound
 }
 
-fn counts_sound(counts: [u32; 13], maxima: [u32; 13], waits: [u8; 504]) -> bool
-    ensures { λ r. ⌜ r ≡ below 13 (λ m. isCountSound (getD counts m 0) (getD maxima m 0) (firstOf waits m)) ⌝ }
+fn counts_sound(numbers: &[u32; 107], waits: &[u8; 504]) -> bool
+    ensures { λ r. ⌜ r ≡ below 13 (countAt (heldIn (now (numbers .entry))) (queuesOf 21 (now (waits .entry)))) ⌝ }
 {
     let mut sound = true;
     let mut m: usize = 0;
     while m < 13 {
-        let here = record::count_sound(counts[m], maxima[m], waits[m * 24]);
+        let count = count_at(numbers, m);
+        let maximum = maximum_at(numbers, m);
+        let first = first_waiter(waits, m);
+        let here = record::count_sound(count, maximum, first);
         sound = here & sound;
         m += 1;
     }
     sound
 }
 
-fn flags_sound(attributes: [u32; 9], bits: [u32; 9], waits: [u8; 504]) -> bool
-    ensures { λ r. ⌜ r ≡ below 9 (λ f. isFlagSound (getD attributes f 0) (getD bits f 0) (firstOf waits (flagRow f)) (secondOf waits (flagRow f))) ⌝ }
+fn flags_sound(numbers: &[u32; 107], waits: &[u8; 504]) -> bool
+    ensures { λ r. ⌜ r ≡ below 9 (flagAt (heldIn (now (numbers .entry))) (queuesOf 21 (now (waits .entry)))) ⌝ }
 {
     let mut sound = true;
     let mut f: u8 = 0;
     while f < 9 {
-        let at = f as usize;
         let row = records::flag_row(f) as usize;
-        let here = flag::flag_sound(
-            attributes[at],
-            bits[at],
-            waits[row * 24],
-            waits[row * 24 + 1],
-        );
+        let attributes = attributes_at(numbers, f as usize);
+        let bits = bits_at(numbers, f as usize);
+        let first = first_waiter(waits, row);
+        let second = flag::second_waiter(waits, row);
+        let here = flag::flag_sound(attributes, bits, first, second);
         sound = here & sound;
         f += 1;
     }
     sound
 }
 
-fn waits_unmet(tasks: [Task; 25], bits: [u32; 9]) -> bool
-    ensures { λ r. ⌜ r ≡ below 25 (λ t. isUnmet (getD tasks t noTask) (getD bits (getD tasks t noTask .object) 0)) ⌝ }
-{
-    let mut unmet = true;
-    let mut t: usize = 0;
-    while t < 25 {
-        let x = tasks[t];
-        let set = flag::bits_of(bits, x.object);
-        let here = flag::is_unmet(x, set);
-        unmet = here & unmet;
-        t += 1;
-    }
-    unmet
-}
-
-// ---- queues
-// The level that lists each task.
-fn levels_wanted(tasks: [Task; 25]) -> [u8; 25]
-    ensures { λ r. ⌜ r ≡ map levelOf tasks ⌝ }
-{
-    let mut wants = [0u8; 25];
-    let mut t: usize = 0;
-    while t < 25 {
-        let x = tasks[t];
-        let level = records::level_of(x);
-        wants[t] = level;
-        t += 1;
-    }
-    wants
-}
-
-// The row of a semaphore or flag that lists each task.
-fn rows_wanted(tasks: [Task; 25]) -> [u8; 25]
-    ensures { λ r. ⌜ r ≡ map rowOf tasks ⌝ }
-{
-    let mut wants = [0u8; 25];
-    let mut t: usize = 0;
-    while t < 25 {
-        let x = tasks[t];
-        let row = records::row_of(x);
-        wants[t] = row;
-        t += 1;
-    }
-    wants
-}
-
 // ---- the state
+pub fn sound_in(
+    bytes: &[u8; 250],
+    words: &[u32; 75],
+    levels: &[u8; 744],
+    waits: &[u8; 504],
+    numbers: &[u32; 107],
+) -> bool
+    ensures { λ r. ⌜ r ≡ isSound (before bytes words levels waits numbers) ⌝ }
+{
+    // as slices, which tell the prover how long they are
+    let ls: &[u8] = levels;
+    let ws: &[u8] = waits;
+    let ns: &[u32] = numbers;
+    let x = stored::record_at(bytes, words, 0);
+    let slice = slice_at(numbers, 0);
+    let charge = charge_at(numbers, 0);
+    let count = count_at(numbers, 0);
+    let maximum = maximum_at(numbers, 0);
+    let attributes = attributes_at(numbers, 0);
+    let bits = bits_at(numbers, 0);
+    let origin = record::is_origin(x, slice, charge, count, maximum, attributes, bits);
+    let seen = look(bytes, words, numbers);
+    let rates = rates_sound(numbers);
+    let counts = counts_sound(numbers, waits);
+    let flags = flags_sound(numbers, waits);
+    let by_level = seen.levels;
+    let runnable = cross_all(ls, 31, by_level);
+    let by_row = seen.rows;
+    let waiting = cross_all(ws, 21, by_row);
+    origin & (seen.sound & (rates & (counts & (flags & (seen.unmet & (runnable & waiting))))))
+}
+
 pub fn is_sound(s: State) -> bool
     ensures { λ r. ⌜ r ≡ isSound s ⌝ }
 {
-    let tasks = s.tasks;
-    let levels = s.levels;
-    let waits = s.waits;
-    let slices = s.slices;
-    let charges = s.charges;
-    let counts = s.counts;
-    let maxima = s.maxima;
-    let attributes = s.attributes;
-    let bits = s.bits;
-    let x = tasks[0];
-    let origin = record::is_origin(
-        x,
-        slices[0],
-        charges[0],
-        counts[0],
-        maxima[0],
-        attributes[0],
-        bits[0],
+    let mut bytes = [0u8; 250];
+    let mut words = [0u32; 75];
+    let mut levels = [0u8; 744];
+    let mut waits = [0u8; 504];
+    let mut numbers = [0u32; 107];
+    tables::spread(
+        &mut bytes,
+        &mut words,
+        &mut levels,
+        &mut waits,
+        &mut numbers,
+        s,
     );
-    if !origin {
-        return false;
-    }
-    let records = tasks_sound(tasks);
-    let rates = rates_sound(slices, charges);
-    let numbers = counts_sound(counts, maxima, waits);
-    let flags = flags_sound(attributes, bits, waits);
-    let unmet = waits_unmet(tasks, bits);
-    let levels_want = levels_wanted(tasks);
-    let runnable = crossing::cross_all(&levels, 31, levels_want);
-    let rows_want = rows_wanted(tasks);
-    let waiting = crossing::cross_all(&waits, 21, rows_want);
-    records & rates & numbers & flags & unmet & runnable & waiting
+    sound_in(&bytes, &words, &levels, &waits, &numbers)
 }

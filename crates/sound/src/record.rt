@@ -1,11 +1,20 @@
 // The tests of one task's record, of a level's slice and charge, of a semaphore's count, and of what stands at place 0.
-// Each function is a definition of model/specs/Test, for every value; it rests on model alone.
+// Each function is a definition of model/specs/Test, for every value; it rests on model, and on records for the numbers of waits and codes.
 ghost use mathlib.Core.Path.{_≡_};
 ghost use mathlib.Core.Bool.{_&&_};
 ghost use lib.Dec.{eqb};
 ghost use Rattle.model.specs.Plan.{within};
-ghost use Rattle.model.specs.Test.{isBlank, isWaitCode, isResting, isWaitSound, isAskSound, isTaskSound, isRateSound, isCountSound};
+ghost use Rattle.model.specs.Test.{isNoWait, isBlank, isWaitCode, isResting, isWaitSound, isAskSound, isTaskSound, isRateSound, isCountSound};
 use model::Task;
+use model::Wait;
+use records::DLT;
+use records::FLAG;
+use records::NOTHING;
+use records::RELEASED;
+use records::SEMAPHORE;
+use records::SERVED;
+use records::SLEEP;
+use records::TIMEOUT;
 
 fn is_within(low: u8, n: u8, top: u8) -> bool
     ensures { λ r. ⌜ r ≡ within low n top ⌝ }
@@ -13,34 +22,39 @@ fn is_within(low: u8, n: u8, top: u8) -> bool
     (low <= n) & (n <= top)
 }
 
+fn is_no_wait(w: Wait) -> bool
+    ensures { λ r. ⌜ r ≡ isNoWait w ⌝ }
+{
+    (w.kind == NOTHING)
+        & ((w.object == 0) & ((w.mode == 0) & ((w.remaining == 0) & (w.pattern == 0))))
+}
+
 fn is_blank(x: Task) -> bool
     ensures { λ r. ⌜ r ≡ isBlank x ⌝ }
 {
+    let wait = x.wait;
+    let no_wait = is_no_wait(wait);
     (x.base == 0)
         & (x.priority == 0)
         & (x.active == 0)
         & (x.suspended == 0)
-        & (x.wait == 0)
-        & (x.object == 0)
         & (x.wakeups == 0)
         & (x.activations == 0)
         & (x.code == 0)
-        & (x.mode == 0)
-        & (x.remaining == 0)
-        & (x.pattern == 0)
+        & no_wait
         & (x.handed == 0)
 }
 
 fn is_wait_code(v: u8) -> bool
     ensures { λ r. ⌜ r ≡ isWaitCode v ⌝ }
 {
-    (v == 0) | ((v == 4) | ((v == 10) | (v == 11)))
+    (v == SERVED) | ((v == TIMEOUT) | ((v == DLT) | (v == RELEASED)))
 }
 
 fn is_resting(x: Task) -> bool
     ensures { λ r. ⌜ r ≡ isResting x ⌝ }
 {
-    (x.wait == 0)
+    (x.wait.kind == NOTHING)
         & (x.suspended == 0)
         & (x.wakeups == 0)
         & (x.activations == 0)
@@ -52,34 +66,34 @@ fn is_resting(x: Task) -> bool
 fn is_wait_sound(x: Task) -> bool
     ensures { λ r. ⌜ r ≡ isWaitSound x ⌝ }
 {
-    let wait = x.wait;
-    let object = x.object;
+    let kind = x.wait.kind;
+    let object = x.wait.object;
+    let remaining = x.wait.remaining;
     let wakeups = x.wakeups;
     let code = x.code;
-    let remaining = x.remaining;
     let handed = x.handed;
-    if wait == 0 {
+    if kind == NOTHING {
         return (object == 0) & (remaining == 0);
     }
     let goes_on = (1 <= remaining) & (code == 0) & (handed == 0);
-    if wait == 1 {
+    if kind == SLEEP {
         return goes_on & (object == 0) & (wakeups == 0);
     }
-    if wait == 2 {
+    if kind == SEMAPHORE {
         let semaphore_fits = is_within(1, object, 12);
         return goes_on & semaphore_fits;
     }
     let flag_fits = is_within(1, object, 8);
-    goes_on & (wait == 3) & flag_fits
+    goes_on & (kind == FLAG) & flag_fits
 }
 
-fn is_ask_sound(x: Task) -> bool
-    ensures { λ r. ⌜ r ≡ isAskSound x ⌝ }
+fn is_ask_sound(w: Wait) -> bool
+    ensures { λ r. ⌜ r ≡ isAskSound w ⌝ }
 {
-    let wait = x.wait;
-    let pattern = x.pattern;
-    let mode = x.mode;
-    if wait == 3 {
+    let kind = w.kind;
+    let pattern = w.pattern;
+    let mode = w.mode;
+    if kind == FLAG {
         return (pattern != 0) & (mode <= 1);
     }
     (pattern == 0) & (mode == 0)
@@ -103,7 +117,8 @@ pub fn task_sound(x: Task) -> bool
     let code_fits = is_wait_code(code);
     let resting = is_resting(x);
     let wait_sound = is_wait_sound(x);
-    let ask_sound = is_ask_sound(x);
+    let wait = x.wait;
+    let ask_sound = is_ask_sound(wait);
     base_fits
         & priority_fits
         & (active <= 1)

@@ -1,28 +1,25 @@
 -- `sound::flags_sound` meets its contract. The invariant: the flags below f are sound so far.
 -- Rests on Tables.
-use mathlib.Core.Path.{_≡_}
+use mathlib.Core.Path.{_≡_, _∙_}
 use Prim.Native.Nat.{_-_, _≤_}
 use native.Mathlib.Omega.{arith}
-use lib.ListN.{length, getD}
 use borrow.Author.Needs.{needs}
-use Rattle.model.specs.Row.{firstOf, secondOf}
-use Rattle.model.specs.Flag.{flagRow}
-use Rattle.model.specs.Test.{below, isFlagSound}
-use Rattle.sound.proofs.Tables.{below-on, below-none, row-in}
+use Rattle.model.specs.Test.{below}
+use Rattle.queues.specs.Queues.{queuesOf}
+use Rattle.numbers.specs.Numbers.{heldIn}
+use Rattle.sound.specs.Parts.{flagAt}
+use Rattle.sound.proofs.Tables.{below-on, below-none}
 use Rattle.sound.proofs.flags_sound.Statement.{statement}
 use Rattle.sound.proofs.flags_sound.Tie as tie
 
 abbrev Inv-loop : tie.InvT-loop
-Inv-loop attributes bits waits sound₀ f₀ sound f = (length attributes ≡ 9) × (length bits ≡ 9) × (length waits ≡ 504) × (f ≤ 9) × (sound ≡ below f (λ k. isFlagSound (getD attributes k 0) (getD bits k 0) (firstOf waits (flagRow k)) (secondOf waits (flagRow k))))
+Inv-loop numbers waits sound₀ f₀ sound f = (f ≤ 9) × (sound ≡ below f (flagAt (heldIn numbers) (queuesOf 21 waits)))
 
 abbrev μ-loop : tie.MeasureT-loop
-μ-loop attributes bits waits sound₀ f₀ sound f = 9 - f
+μ-loop numbers waits sound₀ f₀ sound f = 9 - f
 
 loop-holds : tie.Need-loop-holds Inv-loop μ-loop
-loop-holds c = (search needs, search needs, search needs, omega arith, below-none _)
-
-cast-at : tie.Need-cast-at Inv-loop μ-loop
-cast-at c = search needs
+loop-holds c = (omega arith, below-none _)
 
 flag-row-requires : tie.Need-flag-row-requires Inv-loop μ-loop
 flag-row-requires c κs = search needs
@@ -30,48 +27,38 @@ flag-row-requires c κs = search needs
 cast-row : tie.Need-cast-row Inv-loop μ-loop
 cast-row c = search needs
 
-mul-flag-sound : tie.Need-mul-flag-sound Inv-loop μ-loop
-mul-flag-sound c = search needs
+cast-attributes-at : tie.Need-cast-attributes-at Inv-loop μ-loop
+cast-attributes-at c = search needs
 
-array-read-flag-sound : tie.Need-array-read-flag-sound Inv-loop μ-loop
-array-read-flag-sound c = search needs
+attributes-at-requires : tie.Need-attributes-at-requires Inv-loop μ-loop
+attributes-at-requires c κs = search needs
 
-mul-flag-sound-2 : tie.Need-mul-flag-sound-2 Inv-loop μ-loop
-mul-flag-sound-2 c = search needs
+cast-bits-at : tie.Need-cast-bits-at Inv-loop μ-loop
+cast-bits-at c = search needs
 
-array-read-flag-sound-2 : tie.Need-array-read-flag-sound-2 Inv-loop μ-loop
-array-read-flag-sound-2 c = search needs
+bits-at-requires : tie.Need-bits-at-requires Inv-loop μ-loop
+bits-at-requires c κs = search needs
 
-mul-flag-sound-3 : tie.Need-mul-flag-sound-3 Inv-loop μ-loop
-mul-flag-sound-3 c = search needs
+first-waiter-requires : tie.Need-first-waiter-requires Inv-loop μ-loop
+first-waiter-requires c κs = search needs
 
-array-read-flag-sound-3 : tie.Need-array-read-flag-sound-3 Inv-loop μ-loop
-array-read-flag-sound-3 c = omega (arith, c .flag-row .ensures, row-in (c .before .before .loop .f) (omega arith))
-
-mul-flag-sound-4 : tie.Need-mul-flag-sound-4 Inv-loop μ-loop
-mul-flag-sound-4 c = search needs
-
-add-flag-sound : tie.Need-add-flag-sound Inv-loop μ-loop
-add-flag-sound c = search needs
-
-array-read-flag-sound-4 : tie.Need-array-read-flag-sound-4 Inv-loop μ-loop
-array-read-flag-sound-4 c = omega (arith, c .flag-row .ensures, row-in (c .before .before .loop .f) (omega arith))
+second-waiter-requires : tie.Need-second-waiter-requires Inv-loop μ-loop
+second-waiter-requires c κs = search needs
 
 flag-sound-requires : tie.Need-flag-sound-requires Inv-loop μ-loop
 flag-sound-requires c κs = search needs
 
 add-f : tie.Need-add-f Inv-loop μ-loop
-add-f c = omega arith
+add-f c = search needs
 
 loop-less : tie.Need-loop-less Inv-loop μ-loop
 loop-less c = omega arith
 
 loop-again : tie.Need-loop-again Inv-loop μ-loop
-loop-again c = let l = c .before .before .before .loop in
-    (l .inv .0, l .inv .1, l .inv .2, omega arith, below-on _ (l .f) (c .flag-sound .result) (l .sound) (rw (← c .before .flag-row .ensures) (c .flag-sound .ensures)) (l .inv .4))
+loop-again c = let l = c .before .before .before .before .before .before .before .loop in (omega arith, below-on _ (l .f) (c .flag-sound .result) (l .sound) (c .flag-sound .ensures ∙ rw (c .before .before .before .before .attributes-at .ensures, c .before .before .before .bits-at .ensures, c .before .before .first-waiter .ensures, c .before .second-waiter .ensures, c .before .before .before .before .before .flag-row .ensures)) (l .inv .1))
 
 returns : tie.Need-returns Inv-loop μ-loop
-returns c = let l = c .before .loop in let e : l .f ≡ 9 = omega arith in rw e at (l .inv .4)
+returns c = let l = c .before .loop in let e : l .f ≡ 9 = omega arith in rw e at (l .inv .1)
 
 pub flags-sound-spec : {M : Type 1} → statement M
 flags-sound-spec =
@@ -80,18 +67,14 @@ flags-sound-spec =
     Inv-loop
     μ-loop
     loop-holds
-    cast-at
     flag-row-requires
     cast-row
-    mul-flag-sound
-    array-read-flag-sound
-    mul-flag-sound-2
-    array-read-flag-sound-2
-    mul-flag-sound-3
-    array-read-flag-sound-3
-    mul-flag-sound-4
-    add-flag-sound
-    array-read-flag-sound-4
+    cast-attributes-at
+    attributes-at-requires
+    cast-bits-at
+    bits-at-requires
+    first-waiter-requires
+    second-waiter-requires
     flag-sound-requires
     add-f
     loop-less

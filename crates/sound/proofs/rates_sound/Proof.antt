@@ -1,51 +1,45 @@
--- `sound::rates_sound` meets its contract. The invariant: the slices and charges below l are sound so far.
+-- `sound::rates_sound` meets its contract. The invariant: the rates below l are sound so far.
 -- Rests on Tables.
-use mathlib.Core.Path.{_≡_}
+use mathlib.Core.Path.{_≡_, _∙_}
 use Prim.Native.Nat.{_-_, _≤_}
 use native.Mathlib.Omega.{arith}
-use lib.ListN.{length, getD}
 use borrow.Author.Needs.{needs}
-use Rattle.model.specs.Test.{below, isRateSound}
+use Rattle.model.specs.Test.{below}
+use Rattle.numbers.specs.Numbers.{heldIn}
+use Rattle.sound.specs.Parts.{rateAt}
 use Rattle.sound.proofs.Tables.{below-on, below-none}
 use Rattle.sound.proofs.rates_sound.Statement.{statement}
 use Rattle.sound.proofs.rates_sound.Tie as tie
 
 abbrev Inv-loop : tie.InvT-loop
-Inv-loop slices charges sound₀ l₀ sound l = (length slices ≡ 31) × (length charges ≡ 31) × (l ≤ 31) × (sound ≡ below l (λ k. isRateSound (getD slices k 0) (getD charges k 0)))
+Inv-loop numbers sound₀ l₀ sound l = (l ≤ 31) × (sound ≡ below l (rateAt (heldIn numbers)))
 
 abbrev μ-loop : tie.MeasureT-loop
-μ-loop slices charges sound₀ l₀ sound l = 31 - l
+μ-loop numbers sound₀ l₀ sound l = 31 - l
 
 loop-holds : tie.Need-loop-holds Inv-loop μ-loop
-loop-holds c = (search needs, search needs, omega arith, below-none _)
+loop-holds c = (omega arith, below-none _)
 
-mul-rate-sound : tie.Need-mul-rate-sound Inv-loop μ-loop
-mul-rate-sound c = search needs
+slice-at-requires : tie.Need-slice-at-requires Inv-loop μ-loop
+slice-at-requires c κs = search needs
 
-array-read-rate-sound : tie.Need-array-read-rate-sound Inv-loop μ-loop
-array-read-rate-sound c = search needs
-
-mul-rate-sound-2 : tie.Need-mul-rate-sound-2 Inv-loop μ-loop
-mul-rate-sound-2 c = search needs
-
-array-read-rate-sound-2 : tie.Need-array-read-rate-sound-2 Inv-loop μ-loop
-array-read-rate-sound-2 c = search needs
+charge-at-requires : tie.Need-charge-at-requires Inv-loop μ-loop
+charge-at-requires c κs = search needs
 
 rate-sound-requires : tie.Need-rate-sound-requires Inv-loop μ-loop
 rate-sound-requires c κs = search needs
 
 add-l : tie.Need-add-l Inv-loop μ-loop
-add-l c = omega arith
+add-l c = search needs
 
 loop-less : tie.Need-loop-less Inv-loop μ-loop
 loop-less c = omega arith
 
 loop-again : tie.Need-loop-again Inv-loop μ-loop
-loop-again c = let l = c .before .before .loop in
-    (l .inv .0, l .inv .1, omega arith, below-on _ (l .l) (c .rate-sound .result) (l .sound) (c .rate-sound .ensures) (l .inv .3))
+loop-again c = let l = c .before .before .before .before .loop in (omega arith, below-on _ (l .l) (c .rate-sound .result) (l .sound) (c .rate-sound .ensures ∙ rw (c .before .before .slice-at .ensures, c .before .charge-at .ensures)) (l .inv .1))
 
 returns : tie.Need-returns Inv-loop μ-loop
-returns c = let l = c .before .loop in let e : l .l ≡ 31 = omega arith in rw e at (l .inv .3)
+returns c = let l = c .before .loop in let e : l .l ≡ 31 = omega arith in rw e at (l .inv .1)
 
 pub rates-sound-spec : {M : Type 1} → statement M
 rates-sound-spec =
@@ -54,10 +48,8 @@ rates-sound-spec =
     Inv-loop
     μ-loop
     loop-holds
-    mul-rate-sound
-    array-read-rate-sound
-    mul-rate-sound-2
-    array-read-rate-sound-2
+    slice-at-requires
+    charge-at-requires
     rate-sound-requires
     add-l
     loop-less

@@ -1,22 +1,15 @@
 -- `sound::record::is_blank` meets its contract: field by field.
 -- Rests on model/specs/Test.
-use mathlib.Core.Path.{_≡_}
-use mathlib.Core.Bool.{_&&_, and-assoc}
-use lib.Dec.{eqb}
-use Rattle.model.specs.declared.Task.{Task}
-use Rattle.model.specs.Test.{isBlank}
+use mathlib.Core.Bool.{and-assoc}
+use borrow.Author.Needs.{needs}
 use Rattle.sound.proofs.record.is_blank.Statement.{statement}
 use Rattle.sound.proofs.record.is_blank.Tie as tie
 
--- the tests from left to right
-left-to-right : (x : Task)
-    → ((((((((((((eqb (x .base) 0 && eqb (x .priority) 0) && eqb (x .active) 0) && eqb (x .suspended) 0) && eqb (x .wait) 0) && eqb (x .object) 0)
-    && eqb (x .wakeups) 0) && eqb (x .activations) 0) && eqb (x .code) 0) && eqb (x .mode) 0) && eqb (x .remaining) 0) && eqb (x .pattern) 0) && eqb (x .handed) 0)
-    ≡ isBlank x
-left-to-right x = simp and-assoc
+is-no-wait-requires : tie.Need-is-no-wait-requires
+is-no-wait-requires c κs = search needs
 
 returns : tie.Need-returns
-returns c = left-to-right (c .before .before .before .before .before .before .before .before .before .before .before .before .before .args .x)
+returns c = rw (c .before .before .before .before .before .before .before .before .is-no-wait .ensures) (simp and-assoc)
 
 pub is-blank-spec : {M : Type 1} → statement M
-is-blank-spec = tie.close (tie.spec returns)
+is-blank-spec = tie.close (tie.spec is-no-wait-requires returns)
