@@ -29,16 +29,17 @@ stepped s c a run m x y t k mine p s₁ run₁ e₂ e₃ e₉ e₄ e₅ e₁ e�
     let q : p ≡ plan (isMine c a) a run (task s (subject a run (semaphore s (named a) .first) (flag s (named a) .first))) (semaphore s (named a)) (flag s (named a)) = rw (e₁, e₅, e₄, e₉, e₃, e₂) at e₆ in
     rw (← q, e₈, e₇)
 
-module _ (s : State) (c : Context) (a : Call) (sound : Bool) (f : sound ≡ isSound s) where
-  -- a state that is not sound comes back as it was
+-- a call on a state s, which the tables stand for
+module _ (s z : State) (e : z ≡ s) (c : Context) (a : Call) (sound : Bool) (f : sound ≡ isSound z) where
+  -- one that is not sound comes back as it was
   pub refused : not sound ≡ true → record { code = Unsound; running = 0; value = 0; state = s } ≡ call s c a
   unfolding call
-  refused e = rw (← f, not-true sound e)
+  refused g = rw (← e, ← f, not-true sound g)
 
   -- one that is sound is stepped
-  pub answered : (run : ℕ) (r : Answer) → not sound ≡ false → run ≡ bestFrom 30 1 (s .levels) → r ≡ stepFrom run s c a → r ≡ call s c a
+  pub answered : (run : ℕ) (r : Answer) → not sound ≡ false → run ≡ bestFrom 30 1 (z .levels) → r ≡ stepFrom run z c a → r ≡ call s c a
   unfolding call step running
-  answered run r e g h = rw (← f, not-false sound e) (rw g at h)
+  answered run r g h i = rw (← e, ← f, not-false sound g) (rw h at i)
 
 -- where `run` runs, the step is that of the model
 pub step-from : (s : State) (run : ℕ) (c : Context) (a : Call) → run ≡ bestFrom 30 1 (s .levels) → stepFrom run s c a ≡ step s c a
