@@ -16,7 +16,7 @@ use Rattle.model.specs.State.{fresh, running}
 use Rattle.model.specs.Call.{stepFrom, step}
 use Rattle.kernel.specs.declared.Stepped.{Stepped}
 use Rattle.kernel.proofs.Stepping.{step-from, runs-on}
-use Rattle.stored.specs.Stored.{recordAt, recordsFrom, tasksOf}
+use Rattle.stored.specs.Stored.{recordsFrom, tasksOf}
 use Rattle.numbers.specs.Numbers.{part}
 use Rattle.rows.specs.Flat.{rowIn}
 use Rattle.queues.specs.Queues.{queuesFrom, queuesOf}
@@ -60,7 +60,7 @@ pub record Walked (wide : Bool) (file : List ℕ) (h at n run : ℕ) (s : State)
 
 -- before the first line: tables of zeros are the fresh state's, and there nobody runs
 blank : stateIn (replicate 250 0) (replicate 75 0) (replicate 744 0) (replicate 504 0) (replicate 107 0) ≡ fresh
-unfolding tasksOf recordsFrom recordAt queuesFrom rowIn part
+unfolding tasksOf recordsFrom queuesFrom rowIn part
 blank = refl
 
 idle : 0 ≡ bestFrom 30 1 (queuesOf 31 (replicate 744 0))
@@ -106,7 +106,7 @@ module _ (wide : Bool) (file : List ℕ) (h : ℕ) (rows : List Row) (at n run :
         let d : rest wide file at n ≡ next x c (rest wide file (at + m) (n + 1)) = script-next wide file at (n + 2) x c m more (k .0) g ∙ rw o in
         let p : a ≡ step s x c = step-from s run x c (w .runs) in
         let y : Row = record { code = a .code; running = a .running } in
-        let z : rowsBy step s (rest wide file at n) ≡ y ∷ rowsBy step (a .state) (rest wide file (at + m) (n + 1)) = rw (d, p) in (
+        let z : rowsBy step s (rest wide file at n) ≡ y ∷ rowsBy step (a .state) (rest wide file (at + m) (n + 1)) = rw (d, ← p) in (
           omega arith,
           record {
             inside = omega (arith, length-drop at file, k .1);
