@@ -19,9 +19,9 @@ use Rattle.model.specs.declared.Call.{Call}
 use Rattle.model.specs.Row.{firstOf}
 use Rattle.model.specs.Flag.{flagRow}
 use Rattle.model.specs.Task.{served, released, ended}
-use Rattle.model.specs.State.{fresh, task, count, maximum, waiters, running, moved, counted, flagged, sliced, withTime}
+use Rattle.model.specs.State.{fresh, task, count, time, maximum, waiters, running, moved, counted, flagged, sliced, withTime}
 use Rattle.model.specs.Code.{number, isNegative}
-use Rattle.model.specs.Effect.{toldAll, deleted, toldFlag, charged, lapsed, ticked, carried}
+use Rattle.model.specs.Effect.{stopped, toldAll, deleted, toldFlag, charged, lapsed, ticked, carried}
 use Rattle.model.specs.Call.{step, call}
 use Rattle.model.specs.Sound.{Sound}
 use Rattle.laws.proofs.Number.{same?}
@@ -36,7 +36,7 @@ use Rattle.turns.specs.Statements.{Balanced, EveryResource, NoneWithout}
 use Rattle.turns.proofs.Ways as Ways
 use Rattle.turns.proofs.Ways.{Made, Takes, atOnce, byPoll, Way, way}
 use Rattle.turns.proofs.Still.{tasks-charged}
-use Rattle.turns.proofs.Numbers.{Numbers, numbers-moved, numbers-stopped, numbers-told, numbers-lapsed}
+use Rattle.turns.proofs.Numbers.{numbers-moved, numbers-stopped, numbers-told, numbers-lapsed}
 use Rattle.turns.proofs.Handed.{one-is-served, nobody-is-served}
 
 -- what the theorem keeps from call to call, of a semaphore with count c and maximum v: its account is even, and none is kept of one
@@ -62,20 +62,20 @@ not-entered false m e h t silent = refl
 -- ---- one call
 module _ (s : State) (k : Sound s) (m : ℕ) (t : Tally) (a : Kept s m t) where
   -- where the numbers stay, what is kept stays
-  stays : (z : State) → z .counts ≡ s .counts → z .maxima ≡ s .maxima → {u : Tally} → Kept s m u → Kept z m u
+  stays : (z : State) → z .numbers .counts ≡ s .numbers .counts → z .numbers .maxima ≡ s .numbers .maxima → {u : Tally} → Kept s m u → Kept z m u
   stays z c v b = rw (c, v) b
 
-  numbers : {z : State} → Numbers s z → Kept z m t
-  numbers {z} e = stays z (e .counts) (e .maxima) a
+  numbers : (z : State) → z .numbers ≡ s .numbers → {u : Tally} → Kept s m u → Kept z m u
+  numbers z e b = rw e b
 
   -- semaphore n gets count c and maximum v, and if it is m, a tally that fits them
-  counting : (z : State) → z .counts ≡ s .counts → z .maxima ≡ s .maxima → (n c v : ℕ) (u : Tally) → n ≤ 12 → (n ≡ m → Account c v u) → Kept (counted n c v z) m (cond (eqb n m) u t)
+  counting : (z : State) → z .numbers .counts ≡ s .numbers .counts → z .numbers .maxima ≡ s .numbers .maxima → (n c v : ℕ) (u : Tally) → n ≤ 12 → (n ≡ m → Account c v u) → Kept (counted n c v z) m (cond (eqb n m) u t)
   unfolding counted
   counting z e f n c v u top fits = rw (e, f) (go (same? n m))
     where
-      go : (n ≡ m) ⊎ (n ≡ m → ⊥) → Account (getD (set (s .counts) n c) m 0) (getD (set (s .maxima) n v) m 0) (cond (eqb n m) u t)
-      go (inl y) = rw (eq-eqb n m y, ← y, getD-set-same (s .counts) n c 0 (omega (arith, k .counts#)), getD-set-same (s .maxima) n v 0 (omega (arith, k .maxima#))) (fits y)
-      go (inr apart) = rw (ne-eqb n m apart, getD-set-other (s .counts) n m c 0 (λ y. apart (sym y)), getD-set-other (s .maxima) n m v 0 (λ y. apart (sym y))) a
+      go : (n ≡ m) ⊎ (n ≡ m → ⊥) → Account (getD (set (s .numbers .counts) n c) m 0) (getD (set (s .numbers .maxima) n v) m 0) (cond (eqb n m) u t)
+      go (inl y) = rw (eq-eqb n m y, ← y, getD-set-same (s .numbers .counts) n c 0 (omega (arith, k .semaphores .counts#)), getD-set-same (s .numbers .maxima) n v 0 (omega (arith, k .semaphores .maxima#))) (fits y)
+      go (inr apart) = rw (ne-eqb n m apart, getD-set-other (s .numbers .counts) n m c 0 (λ y. apart (sym y)), getD-set-other (s .numbers .maxima) n m v 0 (λ y. apart (sym y))) a
 
   -- the account of m, which exists, is even with another count or tally
   evened : (n : ℕ) → Made s n → (c : ℕ) (u : Tally) → Balanced u c → Account c (maximum s n) u
@@ -88,7 +88,7 @@ module _ (s : State) (k : Sound s) (m : ℕ) (t : Tally) (a : Kept s m t) where
   serving : (n : ℕ) → Made s n → 1 ≤ firstOf (s .waits) n → Kept (handsOver n) m (entered m (Tallies.release n) (waitsEnded s (handsOver n) m 24) t)
   serving n made some = go (same? n m)
     where
-      kept : Numbers s (handsOver n)
+      kept : handsOver n .numbers ≡ s .numbers
       kept = numbers-moved s (firstOf (s .waits) n) (ended (task s (firstOf (s .waits) n)) served 0)
 
       u : Tally
@@ -97,27 +97,24 @@ module _ (s : State) (k : Sound s) (m : ℕ) (t : Tally) (a : Kept s m t) where
       go : (n ≡ m) ⊎ (n ≡ m → ⊥) → Kept (handsOver n) m (cond (eqb n m) u t)
       go (inl y) =
           let h : waitsEnded s (handsOver n) m 24 ≡ 1 = rw (← y) (one-is-served s k n (made .low) (made .top) some) in
-          rw (eq-eqb n m y) (stays (handsOver n) (kept .counts) (kept .maxima) (rw (← ap (maximum s) y) (evened n made (count s m) u (omega (arith, a .even, h)))))
-      go (inr apart) = rw (ne-eqb n m apart) (numbers kept)
+          rw (eq-eqb n m y) (numbers (handsOver n) kept (rw (← ap (maximum s) y) (evened n made (count s m) u (omega (arith, a .even, h)))))
+      go (inr apart) = rw (ne-eqb n m apart) (numbers (handsOver n) kept a)
 
   ticking : Kept (ticked s) m t
   unfolding ticked
-  ticking = stays (lapsed 24 1 z) (b .counts ∙ c .2) (b .maxima ∙ c .3) a
+  ticking = rw (numbers-lapsed 24 1 z) (stays z (c .2) (c .3) a)
     where
       z : State
-      z = charged (running s) (withTime ((s .time + 1) % 2 ^ 32) s)
+      z = charged (running s) (withTime ((time s + 1) % 2 ^ 32) s)
 
-      b : Numbers z (lapsed 24 1 z)
-      b = numbers-lapsed 24 1 z
-
-      c : (z .tasks ≡ s .tasks) × (z .waits ≡ s .waits) × (z .counts ≡ s .counts) × (z .maxima ≡ s .maxima)
-      c = tasks-charged (withTime ((s .time + 1) % 2 ^ 32) s) (running s)
+      c : (z .tasks ≡ s .tasks) × (z .waits ≡ s .waits) × (z .numbers .counts ≡ s .numbers .counts) × (z .numbers .maxima ≡ s .numbers .maxima)
+      c = tasks-charged (withTime ((time s + 1) % 2 ^ 32) s) (running s)
 
   deleting : (n : ℕ) → n ≤ 12 → Kept (deleted n s) m (cond (eqb n m) noTally t)
   unfolding deleted
   deleting n top =
       let b = numbers-told Deleted (waiters s n) s in
-      counting (toldAll Deleted (waiters s n) s) (b .counts) (b .maxima) n 0 0 noTally top (λ _. record { even = refl; none = λ _. refl })
+      counting (toldAll Deleted (waiters s n) s) (rw b) (rw b) n 0 0 noTally top (λ _. record { even = refl; none = λ _. refl })
 
   -- n has a resource less, and u is t with one more taken
   took : (n : ℕ) → Made s n → 1 ≤ count s n → (u : Tally) → u .start + u .released ≡ t .start + t .released
@@ -140,9 +137,9 @@ module _ (s : State) (k : Sound s) (m : ℕ) (t : Tally) (a : Kept s m t) where
   unfolding carried sliced flagged toldFlag
   after (Ways.refuses c n) = rw (refused-not (number c) n) a
   after Ways.ticks = ticking
-  after (Ways.exits runs) = numbers (numbers-stopped s (running s))
-  after (Ways.terminates u) = numbers (numbers-stopped s u)
-  after (Ways.forces u) = numbers (numbers-moved s u (ended (task s u) released 0))
+  after (Ways.exits runs) = numbers (stopped (running s) s) (numbers-stopped s (running s)) a
+  after (Ways.terminates u) = numbers (stopped u s) (numbers-stopped s u) a
+  after (Ways.forces u) = numbers (moved u (ended (task s u) released 0) s) (numbers-moved s u (ended (task s u) released 0)) a
   after (Ways.slices l v) = stays (sliced l v s) refl refl a
   after (Ways.serves n made first) = serving n made first
   after (Ways.raises n made free) = raising n made free
@@ -151,8 +148,8 @@ module _ (s : State) (k : Sound s) (m : ℕ) (t : Tally) (a : Kept s m t) where
   after (Ways.creates n v w low top made) = counting s refl refl n v w (begun v) top (λ _. record { even = omega arith; none = λ z. absurd (omega arith) })
   after (Ways.takes n made left e) = taking n made left e _
   after (Ways.flags v f b c) = stays (flagged f b c s) refl refl a
-  after (Ways.tells f w b c low top) = let z = numbers-told w (waiters s (flagRow f)) s in stays (flagged f b c (toldAll w (waiters s (flagRow f)) s)) (z .counts) (z .maxima) a
-  after {j} {i} (Ways.moves c u x n silent keeps) = rw (not-entered (isZero (number c)) m i (waitsEnded s (moved u x s) m 24) t silent) (numbers (numbers-moved s u x))
+  after (Ways.tells f w b c low top) = let z = numbers-told w (waiters s (flagRow f)) s in stays (flagged f b c (toldAll w (waiters s (flagRow f)) s)) (rw z) (rw z) a
+  after {j} {i} (Ways.moves c u x n silent keeps) = rw (not-entered (isZero (number c)) m i (waitsEnded s (moved u x s) m 24) t silent) (numbers (moved u x s) (numbers-moved s u x) a)
 
 -- ---- any calls
 accounts : (m : ℕ) (calls : List (Context × Call)) (s : State) (t : Tally) → Sound s → Kept s m t → Kept (reachedBy step s calls) m (tally step m s calls t)

@@ -39,7 +39,7 @@ module _ (s s′ : State) (m : ℕ) where
 -- who still waits on m has not ended
 waits-on : (x : Task) (m : ℕ) → 1 ≤ m → (b : Bool) → eqb (rowOf x) m && (not (isWaiting x) && b) ≡ false
 waits-on x m some b = ⊎-elim
-    (λ (e : rowOf x ≡ m). rw (eq-eqb (rowOf x) m e, ne-eqb (x .wait) nothing (λ z. omega (arith, row-waits x (omega arith)))))
+    (λ (e : rowOf x ≡ m). rw (eq-eqb (rowOf x) m e, ne-eqb (x .wait .kind) nothing (λ z. omega (arith, row-waits x (omega arith)))))
     (λ (apart : rowOf x ≡ m → ⊥). rw (ne-eqb (rowOf x) m apart))
     (same? (rowOf x) m)
 

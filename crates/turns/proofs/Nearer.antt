@@ -14,7 +14,7 @@ use Rattle.model.specs.declared.News.the-variants.{Deleted}
 use Rattle.model.specs.Row.{place, first, firstOf}
 use Rattle.model.specs.Flag.{flagRow}
 use Rattle.model.specs.Task.{served, released, levelOf, ended, aged}
-use Rattle.model.specs.State.{task, slice, level, waiters, running, moved, counted, flagged, sliced, withTime}
+use Rattle.model.specs.State.{task, slice, time, level, waiters, running, moved, counted, flagged, sliced, withTime}
 use Rattle.model.specs.Code.{isRefusal}
 use Rattle.model.specs.Effect.{stopped, toldAll, deleted, toldFlag, charged, ticked, carried}
 use Rattle.model.specs.Test.{one}
@@ -65,8 +65,8 @@ module _ (s : State) (k : Sound s) (l t : ℕ) (h : 1 ≤ l) (e : levelOf (task 
   slicing : (j v : ℕ) → (j ≡ l → ⊥) → Nearer l t s (sliced j v s) 0
   unfolding sliced
   slicing j v other = record {
-    steady = getD-set-other (s .slices) j l v 0 (λ z. other (sym z));
-    falls = rw (getD-set-other (s .charges) j l 0 0 (λ z. other (sym z))) (omega arith);
+    steady = getD-set-other (s .numbers .slices) j l v 0 (λ z. other (sym z));
+    falls = rw (getD-set-other (s .numbers .charges) j l 0 0 (λ z. other (sym z))) (omega arith);
   }
 
   ticking : 1 ≤ slice s l → 1 ≤ place (level s l) t → Nearer l t s (ticked s) (one (eqb (levelOf (task s (running s))) l && not (eqb (slice s l) 0)))
@@ -74,7 +74,7 @@ module _ (s : State) (k : Sound s) (l t : ℕ) (h : 1 ≤ l) (e : levelOf (task 
   ticking some behind = nearer-then (record { steady = a .steady; falls = a .falls }) (nearer-still (still-lapsed on-levels l t (low s k l t h e) 24 1 z (λ _. aging) stands) (numbers-lapsed 24 1 z))
     where
       n : ℕ
-      n = (s .time + 1) % 2 ^ 32
+      n = (time s + 1) % 2 ^ 32
 
       z : State
       z = charged (running s) (withTime n s)

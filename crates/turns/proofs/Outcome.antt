@@ -15,14 +15,13 @@ use Rattle.model.specs.declared.News.the-variants.{Deleted}
 use Rattle.model.specs.declared.Effect.the-variants.{Moves, Deletes, Ticks, Tells}
 use Rattle.model.specs.Row.{place, first, left, row, firstOf, relisted}
 use Rattle.model.specs.Task.{nothing, served, timeout, dlt, released, rowOf, ended, aged}
-use Rattle.model.specs.State.{task, count, maximum, waiters, running, moved, counted, flagged, sliced, withTime}
+use Rattle.model.specs.State.{task, count, time, maximum, waiters, running, moved, counted, flagged, sliced, withTime}
 use Rattle.model.specs.Code.{isRefusal}
 use Rattle.model.specs.Effect.{toldAll, deleted, toldFlag, charged, lapsed, ticked, carried}
 use Rattle.model.specs.Plan.{does}
 use Rattle.model.specs.Test.{one, occ}
 use Rattle.model.specs.Sound.{Sound}
 use Rattle.laws.proofs.Number.{same?}
-use Rattle.laws.proofs.Table.{first-row}
 use Rattle.laws.proofs.Relisted.{row-relisted-from}
 use Rattle.laws.proofs.Occ.{one-eq, one-ne}
 use Rattle.laws.proofs.Record.{row-waits, flag-row}
@@ -51,7 +50,7 @@ pub data Outcome (s : State) (m t : ℕ) (k : Kind) (p : Plan) : Type 0 where
   holds : T (not (isRefusal (p .code)) && isReleaseOf m k) → Ended (carried s (p .effect)) t served → Outcome s m t k p
   lapses : T (not (isRefusal (p .code))) → k ≡ Kinds.tick → Ended (carried s (p .effect)) t timeout → Outcome s m t k p
   forced : T (not (isRefusal (p .code))) → k ≡ forcedRelease t → Ended (carried s (p .effect)) t released → Outcome s m t k p
-  stops : T (not (isRefusal (p .code))) → k ≡ Kinds.terminate t → task (carried s (p .effect)) t .wait ≡ nothing → Outcome s m t k p
+  stops : T (not (isRefusal (p .code))) → k ≡ Kinds.terminate t → task (carried s (p .effect)) t .wait .kind ≡ nothing → Outcome s m t k p
   deletes : T (not (isRefusal (p .code))) → k ≡ deletion m → Ended (carried s (p .effect)) t dlt → Outcome s m t k p
 
 module _ (s : State) (k : Sound s) (m t : ℕ) (h : 1 ≤ m) (top : m ≤ 12) (e : rowOf (task s t) ≡ m) where
@@ -90,10 +89,9 @@ module _ (s : State) (k : Sound s) (m t : ℕ) (h : 1 ≤ m) (top : m ≤ 12) (e
       → suc (place (waiters (moved u (ended (task s u) served 0) s) m) t) ≤ place (waiters s m) t
   unfolding moved rowOf
   first-leaves u f g apart =
-      let q : first (waiters s m) ≡ u = sym (first-row (s .waits) m) ∙ f in
       let z : row (relisted (s .waits) (rowOf (task s u)) 0 u) m ≡ left (waiters s m) (first (waiters s m)) =
-      ap (λ i. row (relisted (s .waits) i 0 u) m) g ∙ row-relisted-from (s .waits) m 0 u (λ y. omega arith) (λ y. omega arith) ∙ ap (left (waiters s m)) (sym q) in
-      rw z (place-served (waiters s m) t (omega (arith, listed)) (λ y. apart (sym q ∙ y)))
+      ap (λ i. row (relisted (s .waits) i 0 u) m) g ∙ row-relisted-from (s .waits) m 0 u (λ y. omega arith) (λ y. omega arith) (omega (arith, k .waits .sized)) ∙ ap (left (waiters s m)) (sym f) in
+      rw z (place-served (waiters s m) t (omega (arith, listed)) (λ y. apart (sym f ∙ y)))
 
   serving : (n : ℕ) → n ≤ 12 → 1 ≤ firstOf (s .waits) n
       → Outcome s m t (release n) (does (Moves (firstOf (s .waits) n) (ended (task s (firstOf (s .waits) n)) served 0)))
@@ -141,15 +139,15 @@ module _ (s : State) (k : Sound s) (m t : ℕ) (h : 1 ≤ m) (top : m ≤ 12) (e
   ticking = go (aged-waits (task s t) m h e)
     where
       z : State
-      z = charged (running s) (withTime ((s .time + 1) % 2 ^ 32) s)
+      z = charged (running s) (withTime ((time s + 1) % 2 ^ 32) s)
 
       kept : (z .tasks ≡ s .tasks) × (z .waits ≡ s .waits)
-      kept = let a = tasks-charged (withTime ((s .time + 1) % 2 ^ 32) s) (running s) in (a .0, a .1)
+      kept = let a = tasks-charged (withTime ((time s + 1) % 2 ^ 32) s) (running s) in (a .0, a .1)
 
       at : task z t ≡ task s t
       at = rw (kept .0)
 
-      go : (rowOf (aged (task s t)) ≡ m) ⊎ ((aged (task s t) .wait ≡ nothing) × (aged (task s t) .code ≡ timeout)) → Outcome s m t Kinds.tick (does Ticks)
+      go : (rowOf (aged (task s t)) ≡ m) ⊎ ((aged (task s t) .wait .kind ≡ nothing) × (aged (task s t) .code ≡ timeout)) → Outcome s m t Kinds.tick (does Ticks)
       go (inl w) = on (still-then on-waits m t low (untouched z (kept .0) (kept .1)) (still-lapsed on-waits m t low 24 1 z (λ _. rw at w) (rw at e))) refl
       go (inr w) =
           let y : task (lapsed 24 1 z) t ≡ aged (task s t) = lapsed-at 24 1 z t (rw (kept .0) long) low (omega (arith, waiter-in s k t (omega arith))) ∙ ap aged at in

@@ -26,7 +26,8 @@ use Rattle.model.specs.Code.{number, isRefusal}
 use Rattle.model.specs.Plan.{isTask, isPriority, isSemaphore, isMaximum, isTimeout, isSlice, isMade, isFlag, isPattern, isMode, isFlagMade, does, answers, gives, refused, need, checked}
 use Rattle.model.specs.Service.{create, delete, activate, exit, terminate, suspend, resume, sleep, wakeup, releaseWait, wanted, changePriority, tsliceTicks, tick, semCreate, semDelete, signal, acquire, polling}
 use Rattle.model.specs.Service.{eventCreate, eventDelete, eventSet, eventClear, isOccupied, taken, eventWait, eventPoll}
-use Rattle.model.specs.Call.{inT, inI, eventSubject, eventPlan, plan, planned}
+use Rattle.model.specs.Services.{isMine}
+use Rattle.model.specs.Call.{named, subject, eventSubject, eventPlan, plan, planned}
 use Rattle.model.specs.Test.{one}
 use Rattle.model.specs.Sound.{SoundTask, Sound}
 use Rattle.laws.proofs.Padded.{both}
@@ -97,7 +98,7 @@ module _ {s : State} {k : Kind} {e : Entry} where
 
 module _ (s : State) where
   -- ---- records of those who wait on no semaphore and no flag
-  idle : {A : Type 0} (x : Task) → x .wait ≤ aSleep → 1 ≤ rowOf x → A
+  idle : {A : Type 0} (x : Task) → x .wait .kind ≤ aSleep → 1 ≤ rowOf x → A
   idle x free h = absurd (omega (arith, row-waits x h))
 
   dormant-idle : {A : Type 0} (x : Task) → SoundTask x → x .active ≡ 0 → 1 ≤ rowOf x → A
@@ -113,7 +114,7 @@ module _ (s : State) where
       let a = both (isTask t) (isPriority p && (leb o 1 && not (isCreated (task s t)))) h in
       let b = both (isPriority p) (leb o 1 && not (isCreated (task s t))) (a .1) in
       let e = none-of (task s t .base) (both (leb o 1) (not (isCreated (task s t))) (b .1) .1) in
-      moves _ _ _ tt (λ _. refl) (λ k. idle (task s t) (omega (arith, ap (λ (x : Task). x .wait) (k .tasks t .blank e)))))
+      moves _ _ _ tt (λ _. refl) (λ k. idle (task s t) (omega (arith, ap (λ (x : Task). x .wait .kind) (k .tasks t .blank e)))))
 
   way-delete : (mine : Bool) (t : ℕ) → Way s other none (delete mine t (task s t))
   unfolding delete
@@ -151,7 +152,7 @@ module _ (s : State) where
   way-wakeup : (mine : Bool) (t : ℕ) → Way s other none (wakeup mine t (task s t))
   unfolding wakeup rowOf
   way-wakeup mine t = checks (isTask t) (isCreated (task s t)) mine _ (λ _ _. needs (not (isDormant (task s t))) _ _ tt (λ _. picks (isAsleep (task s t)) _ _
-      (λ sleeps. moves _ _ _ tt (λ _. refl) (λ _. idle (task s t) (omega (arith, eqb→eq (task s t .wait) aSleep sleeps))))
+      (λ sleeps. moves _ _ _ tt (λ _. refl) (λ _. idle (task s t) (omega (arith, eqb→eq (task s t .wait .kind) aSleep sleeps))))
       (λ _. needs (eqb (task s t .wakeups) 0) _ _ tt (λ _. moves _ _ _ tt (λ _. refl) (λ _ _. refl)))))
 
   way-releaseWait : (mine : Bool) (t : ℕ) → Way s (forcedRelease t) none (releaseWait mine t (task s t))
@@ -230,42 +231,47 @@ module _ (s : State) where
   way-eventPoll mine f p m = checks (isFlag f && (isPattern p && isMode m)) (isFlagMade (flag s f)) mine _ (λ _ _. needs (not (isOccupied (flag s f))) _ _ tt (λ _.
       needs (isMet p m (bitsOf s f)) _ _ tt (λ _. flags _ f _ _)))
 
-  way-event : (c : Context) (f : ℕ) (e : Events.Event) → Way s other none (eventPlan c f e (running s) (task s (eventSubject e (running s) (firstOf (s .waits) (flagRow f)))) (flag s f))
+  way-event : (mine : Bool) (f : ℕ) (e : Events.Event) → Way s other none (eventPlan mine f e (running s) (task s (eventSubject e (running s) (firstOf (s .waits) (flagRow f)))) (flag s f))
   unfolding eventPlan
-  way-event c f (Create a b) = way-eventCreate (inT c) f a b
-  way-event c f Delete = way-eventDelete (inT c) f
-  way-event c f (Set b) = way-eventSet (inT c) f b
-  way-event c f (Iset b) = way-eventSet (inI c) f b
-  way-event c f (Clear b) = way-eventClear (inT c) f b
-  way-event c f (Iclear b) = way-eventClear (inI c) f b
-  way-event c f (Wait p m d) = way-eventWait (inT c) f p m d
-  way-event c f (WaitPolling p m) = way-eventPoll (inT c) f p m
-  way-event c f (Iwait p m) = way-eventPoll (inI c) f p m
+  way-event mine f (Create a b) = way-eventCreate mine f a b
+  way-event mine f Delete = way-eventDelete mine f
+  way-event mine f (Set b) = way-eventSet mine f b
+  way-event mine f (Iset b) = way-eventSet mine f b
+  way-event mine f (Clear b) = way-eventClear mine f b
+  way-event mine f (Iclear b) = way-eventClear mine f b
+  way-event mine f (Wait p m d) = way-eventWait mine f p m d
+  way-event mine f (WaitPolling p m) = way-eventPoll mine f p m
+  way-event mine f (Iwait p m) = way-eventPoll mine f p m
 
 -- ---- every call
+ways : (s : State) (mine : Bool) (a : Call)
+    → Way s (kind a) (entry a) (plan mine a (running s) (task s (subject a (running s) (firstOf (s .waits) (named a)) (firstOf (s .waits) (flagRow (named a))))) (semaphore s (named a)) (flag s (named a)))
+unfolding plan
+ways s mine (TaskCreate t p o) = way-create s mine t p o
+ways s mine (TaskDelete t) = way-delete s mine t
+ways s mine (TaskActivate t) = way-activate s mine t
+ways s mine (TaskIactivate t) = way-activate s mine t
+ways s mine TaskExit = way-exit s mine
+ways s mine (TaskTerminate t) = way-terminate s mine t
+ways s mine (TaskSuspend t) = way-suspend s mine t
+ways s mine (TaskResume t) = way-resume s mine t
+ways s mine (TaskSleep d) = way-sleep s mine d
+ways s mine (TaskWakeup t) = way-wakeup s mine t
+ways s mine (TaskIwakeup t) = way-wakeup s mine t
+ways s mine (TaskReleaseWait t) = way-releaseWait s mine t
+ways s mine (TaskIreleaseWait t) = way-releaseWait s mine t
+ways s mine (TaskChangePriority t p) = way-changePriority s mine t p
+ways s mine (SysTsliceTicks l v) = way-tsliceTicks s mine l v
+ways s mine TickIntProcessing = way-tick s mine
+ways s mine (SemCreate m n v) = way-semCreate s mine m n v
+ways s mine (SemDelete m) = way-semDelete s mine m
+ways s mine (SemSignal m) = way-signal s mine m
+ways s mine (SemIsignal m) = way-signal s mine m
+ways s mine (SemAcquire m d) = way-acquire s mine m d
+ways s mine (SemPolling m) = way-polling s mine m
+ways s mine (SemIpolling m) = way-polling s mine m
+ways s mine (Event f e) = way-event s mine f e
+
 pub way : (s : State) (c : Context) (a : Call) → Way s (kind a) (entry a) (planned s c a)
-unfolding planned plan
-way s c (TaskCreate t p o) = way-create s (inT c) t p o
-way s c (TaskDelete t) = way-delete s (inT c) t
-way s c (TaskActivate t) = way-activate s (inT c) t
-way s c (TaskIactivate t) = way-activate s (inI c) t
-way s c TaskExit = way-exit s (inT c)
-way s c (TaskTerminate t) = way-terminate s (inT c) t
-way s c (TaskSuspend t) = way-suspend s (inT c) t
-way s c (TaskResume t) = way-resume s (inT c) t
-way s c (TaskSleep d) = way-sleep s (inT c) d
-way s c (TaskWakeup t) = way-wakeup s (inT c) t
-way s c (TaskIwakeup t) = way-wakeup s (inI c) t
-way s c (TaskReleaseWait t) = way-releaseWait s (inT c) t
-way s c (TaskIreleaseWait t) = way-releaseWait s (inI c) t
-way s c (TaskChangePriority t p) = way-changePriority s (inT c) t p
-way s c (SysTsliceTicks l v) = way-tsliceTicks s (inT c) l v
-way s c TickIntProcessing = way-tick s (inI c)
-way s c (SemCreate m n v) = way-semCreate s (inT c) m n v
-way s c (SemDelete m) = way-semDelete s (inT c) m
-way s c (SemSignal m) = way-signal s (inT c) m
-way s c (SemIsignal m) = way-signal s (inI c) m
-way s c (SemAcquire m d) = way-acquire s (inT c) m d
-way s c (SemPolling m) = way-polling s (inT c) m
-way s c (SemIpolling m) = way-polling s (inI c) m
-way s c (Event f e) = way-event s c f e
+unfolding planned
+way s c a = ways s (isMine c a) a
