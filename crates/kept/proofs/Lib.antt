@@ -4,8 +4,7 @@ pub mod Records
 pub mod Told
 pub mod Effects
 pub mod Running
-pub mod Shape
-pub mod FlagShapes
-pub mod Shapes
+pub mod Changed
+pub mod Accepted
 pub mod Fresh
 pub mod Kept

@@ -3,10 +3,10 @@
 use mathlib.Core.Path.{_≡_, refl, ap}
 use mathlib.Core.Bool.{Bool, true, false, cond, not, _&&_}
 use mathlib.Core.Logic.{_⊎_, inl, inr}
-use Prim.Native.Nat.{ℕ, zero, suc, _-_, _≤_}
+use Prim.Native.Nat.{ℕ, _-_, _≤_}
 use native.Mathlib.Omega.{arith}
 use lib.Dec.{T, eqb}
-use borrow.Author.Tests.{eqb-true, eqb-false}
+use borrow.Author.Tests.{eqb-false}
 use Rattle.model.specs.declared.Wait.{Wait}
 use Rattle.model.specs.declared.Task.{Task}
 use Rattle.model.specs.declared.News.{News}
@@ -18,18 +18,7 @@ use Rattle.model.specs.Test.{isWaitCode}
 use Rattle.model.specs.Sound.{SoundTask}
 use Rattle.laws.proofs.Padded.{both}
 use Rattle.laws.proofs.Record.{row-waits}
-
--- ---- tests
-pub some-of : (n : ℕ) → T (not (eqb n 0)) → 1 ≤ n
-some-of zero h = absurd h
-some-of (suc n) h = omega arith
-
-pub none-of : (n : ℕ) → T (not (not (eqb n 0))) → n ≡ 0
-none-of n h = go (eqb n 0) refl h
-  where
-    go : (b : Bool) → eqb n 0 ≡ b → T (not (not b)) → n ≡ 0
-    go true e h = eqb-true n 0 e
-    go false e h = absurd h
+use Rattle.ways.proofs.Tests.{some-of, none-of}
 
 -- ---- what a sound record's fields say of each other
 module _ (x : Task) (k : SoundTask x) where
@@ -49,7 +38,7 @@ level-live x h = go (isRunnable x) h (both (not (isDormant x)) (not (isSuspended
   where
     go : (b : Bool) → 1 ≤ cond b (x .priority) 0 → (T b → T (not (isDormant x)) × T (not (isSuspended x) && not (isWaiting x)))
         → (1 ≤ x .active) × (x .wait .kind ≡ nothing)
-    go true h r = (some-of (x .active) (r tt .0), none-of (x .wait .kind) (both (not (isSuspended x)) (not (isWaiting x)) (r tt .1) .1))
+    go true h r = (some-of (x .active) .yields (r tt .0), none-of (x .wait .kind) .yields (both (not (isSuspended x)) (not (isWaiting x)) (r tt .1) .1))
     go false h r = absurd (omega arith)
 
 pub row-live : (x : Task) → SoundTask x → 1 ≤ rowOf x → 1 ≤ x .active
@@ -255,9 +244,9 @@ sound-aged x k = go (isTimed x) (eqb (x .wait .remaining) 1) (λ h. both (not (e
 
     go : (a b : Bool) → (T a → T (not (eqb (x .wait .remaining) 0))) → eqb (x .wait .remaining) 1 ≡ b
         → SoundTask (cond a (cond b (ended x (ranOut x) 0) (withRemaining x (x .wait .remaining - 1))) x)
-    go true true timed e = sound-ended x k (waiting-live x k (waits (some-of (x .wait .remaining) (timed tt)))) (ranOut x) 0 (code-out x)
+    go true true timed e = sound-ended x k (waiting-live x k (waits (some-of (x .wait .remaining) .yields (timed tt)))) (ranOut x) 0 (code-out x)
     go true false timed e =
-        let some : 1 ≤ x .wait .remaining = some-of (x .wait .remaining) (timed tt) in
+        let some : 1 ≤ x .wait .remaining = some-of (x .wait .remaining) .yields (timed tt) in
         let more : x .wait .remaining ≡ 1 → ⊥ = eqb-false (x .wait .remaining) 1 e in
         sound-withRemaining x k (waiting-live x k (waits some)) (x .wait .remaining - 1) (omega arith) (waits some)
     go false b timed e = k

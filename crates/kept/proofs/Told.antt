@@ -10,6 +10,7 @@ use borrow.Author.Tests.{ne-eqb, eq-eqb}
 use Rattle.model.specs.declared.Task.{Task}
 use Rattle.model.specs.declared.State.{State}
 use Rattle.model.specs.declared.News.{News}
+use Rattle.model.specs.Row.{firstOf}
 use Rattle.model.specs.Task.{told, rowOf}
 use Rattle.model.specs.State.{task, waiters, moved}
 use Rattle.model.specs.Effect.{toldAll}
@@ -41,6 +42,13 @@ may-same s k t x e = record {
 -- who is listed by a semaphore or a flag is one of the tasks
 pub waiter-in : (s : State) → Sound s → (t : ℕ) → 1 ≤ rowOf (task s t) → (1 ≤ t) × (t ≤ 24)
 waiter-in s k t h = task-in rowOf row-none s k t h
+
+-- where nobody stands first in a row of waiters, nobody waits there
+pub no-waiter : (s : State) → Sound s → (m : ℕ) → 1 ≤ m → m ≤ 20 → firstOf (s .waits) m ≡ 0 → (t : ℕ) → rowOf (task s t) ≡ m → ⊥
+no-waiter s k m low top e t f =
+    let i = waiter-in s k t (omega arith) .0 in
+    let there : occ t (waiters s m) ≡ 1 = listed-in (s .waits) 21 (λ t. rowOf (task s t)) (k .waits) m t (omega arith) i low f in
+    omega (arith, first-none (waiters s m) (k .waits .ends m (omega arith)) e t i)
 
 -- ---- the queue, from its first to its last
 -- it holds live tasks, and whoever waits in row m and has not been told

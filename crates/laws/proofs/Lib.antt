@@ -1,4 +1,5 @@
 pub mod Number
+pub mod Says
 pub mod Row
 pub mod Table
 pub mod Relisted

@@ -14,7 +14,7 @@ use Rattle.model.specs.Test.{isNoWait, isBlank, isWaitCode, isResting, isWaitSo
 use Rattle.model.specs.Sound.{SoundTask}
 use Rattle.laws.proofs.Number.{same?}
 use Rattle.laws.proofs.Record.{sound-none}
-use Rattle.tested.proofs.Says.{Says, says-as, says-same, says-eq, says-le, says-not, says-and, says-implies, says-cond, says-within}
+use Rattle.laws.proofs.Says.{Says, says-as, says-same, says-eq, says-le, says-not, says-and, says-implies, says-cond, says-within}
 
 -- ---- all zeros
 blank : (base priority active suspended wakeups activations code : ℕ) (wait : Wait) (handed : ℕ)

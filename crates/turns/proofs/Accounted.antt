@@ -1,7 +1,7 @@
 -- Part C of specs/Statements: every resource is accounted for, whatever is called, by `step` as by the checked `call`.
--- It goes by the ways of the plans (Ways), the numbers that moves leave alone (Numbers) and who is served at a release (Handed).
-use mathlib.Core.Path.{_≡_, refl, sym, ap, _∙_}
-use mathlib.Core.Bool.{Bool, true, false, cond}
+-- It goes by the ways of ways, the numbers that moves leave alone (Numbers) and who is served at a release (Handed).
+use mathlib.Core.Path.{_≡_, refl, sym, ap}
+use mathlib.Core.Bool.{false, cond}
 use mathlib.Core.List.{List, [], _∷_}
 use mathlib.Core.Logic.{_⊎_, inl, inr}
 use Prim.Native.Nat.{ℕ, _+_, _-_, _≤_, _%_, _^_}
@@ -11,30 +11,35 @@ use lib.IntN.{ℤ, pos, negsuc}
 use lib.ListN.{getD, set}
 use lib.Seq.{getD-set-same, getD-set-other}
 use borrow.Author.Tests.{eq-eqb, ne-eqb}
+use Rattle.model.specs.declared.Task.{Task}
 use Rattle.model.specs.declared.State.{State}
 use Rattle.model.specs.declared.Plan.{Plan}
+use Rattle.model.specs.declared.Effect.{Effect}
+use Rattle.model.specs.declared.Code.{Code}
 use Rattle.model.specs.declared.News.the-variants.{Deleted}
 use Rattle.model.specs.declared.Context.{Context}
 use Rattle.model.specs.declared.Call.{Call}
 use Rattle.model.specs.Row.{firstOf}
 use Rattle.model.specs.Flag.{flagRow}
-use Rattle.model.specs.Task.{served, released, ended}
+use Rattle.model.specs.Task.{served, released, waiting, ended}
 use Rattle.model.specs.State.{fresh, task, count, time, maximum, waiters, running, moved, counted, flagged, sliced, withTime}
 use Rattle.model.specs.Code.{number, isNegative}
-use Rattle.model.specs.Effect.{stopped, toldAll, deleted, toldFlag, charged, lapsed, ticked, carried}
+use Rattle.model.specs.Effect.{stopped, toldAll, deleted, toldFlag, charged, ticked, carried}
 use Rattle.model.specs.Call.{step, call}
 use Rattle.model.specs.Sound.{Sound}
 use Rattle.laws.proofs.Number.{same?}
 use Rattle.kept.proofs.Fresh.{reads}
-use Rattle.kept.proofs.Records.{none-of}
+use Rattle.ways.proofs.Tests.{none-of}
 use Rattle.kept.proofs.Kept.{fresh-is-sound, sound-stays-sound}
 use Rattle.tested.proofs.Same.{sound-exactly}
-use Rattle.turns.specs.Kind.{Kind}
-use Rattle.turns.specs.Tally as Tallies
-use Rattle.turns.specs.Tally.{reachedBy, Entry, none, isZero, waitsEnded, Tally, begun, noTally, withRelease, withAtOnce, withPolled, entered, tallied, tally}
+use Rattle.ways.specs.Kind.{Kind}
+use Rattle.ways.specs.Entry as Entries
+use Rattle.ways.specs.Entry.{Entry}
+use Rattle.turns.specs.Tally.{reachedBy, isZero, waitsEnded, Tally, begun, noTally, withRelease, withAtOnce, withPolled, entered, tallied, tally}
 use Rattle.turns.specs.Statements.{Balanced, EveryResource, NoneWithout}
-use Rattle.turns.proofs.Ways as Ways
-use Rattle.turns.proofs.Ways.{Made, Takes, atOnce, byPoll, Way, way}
+use Rattle.ways.proofs.Done.{Made, Takes, atOnce, byPoll, Done, Way, refuses, accepts}
+use Rattle.ways.proofs.Done.{Done as Ways}
+use Rattle.ways.proofs.Ways.{way}
 use Rattle.turns.proofs.Still.{tasks-charged}
 use Rattle.turns.proofs.Numbers.{numbers-moved, numbers-stopped, numbers-told, numbers-lapsed}
 use Rattle.turns.proofs.Handed.{one-is-served, nobody-is-served}
@@ -54,11 +59,6 @@ refused-not : (z : ℤ) → T (isNegative z) → isZero z ≡ false
 refused-not (pos n) h = absurd h
 refused-not (negsuc n) h = refl
 
--- nor is anything entered where only an answer of 0 would be
-not-entered : (b : Bool) (m : ℕ) (e : Entry) (h : ℕ) (t : Tally) → (T b → e ≡ none) → cond b (entered m e h t) t ≡ t
-not-entered true m e h t silent = rw (silent tt)
-not-entered false m e h t silent = refl
-
 -- ---- one call
 module _ (s : State) (k : Sound s) (m : ℕ) (t : Tally) (a : Kept s m t) where
   -- where the numbers stay, what is kept stays
@@ -67,6 +67,9 @@ module _ (s : State) (k : Sound s) (m : ℕ) (t : Tally) (a : Kept s m t) where
 
   numbers : (z : State) → z .numbers ≡ s .numbers → {u : Tally} → Kept s m u → Kept z m u
   numbers z e b = rw e b
+
+  moving : (u : ℕ) (x : Task) → Kept (moved u x s) m t
+  moving u x = numbers (moved u x s) (numbers-moved s u x) a
 
   -- semaphore n gets count c and maximum v, and if it is m, a tally that fits them
   counting : (z : State) → z .numbers .counts ≡ s .numbers .counts → z .numbers .maxima ≡ s .numbers .maxima → (n c v : ℕ) (u : Tally) → n ≤ 12 → (n ≡ m → Account c v u) → Kept (counted n c v z) m (cond (eqb n m) u t)
@@ -85,7 +88,7 @@ module _ (s : State) (k : Sound s) (m : ℕ) (t : Tally) (a : Kept s m t) where
   abbrev handsOver : ℕ → State
   handsOver n = moved (firstOf (s .waits) n) (ended (task s (firstOf (s .waits) n)) served 0) s
 
-  serving : (n : ℕ) → Made s n → 1 ≤ firstOf (s .waits) n → Kept (handsOver n) m (entered m (Tallies.release n) (waitsEnded s (handsOver n) m 24) t)
+  serving : (n : ℕ) → Made s n → 1 ≤ firstOf (s .waits) n → Kept (handsOver n) m (entered m (Entries.release n) (waitsEnded s (handsOver n) m 24) t)
   serving n made some = go (same? n m)
     where
       kept : handsOver n .numbers ≡ s .numbers
@@ -125,7 +128,7 @@ module _ (s : State) (k : Sound s) (m : ℕ) (t : Tally) (a : Kept s m t) where
   taking n made left atOnce h = took n made left (withAtOnce t) refl (omega arith)
   taking n made left byPoll h = took n made left (withPolled t) refl (omega arith)
 
-  raising : (n : ℕ) → Made s n → firstOf (s .waits) n ≡ 0 → Kept (counted n (count s n + 1) (maximum s n) s) m (entered m (Tallies.release n) (waitsEnded s (counted n (count s n + 1) (maximum s n) s) m 24) t)
+  raising : (n : ℕ) → Made s n → firstOf (s .waits) n ≡ 0 → Kept (counted n (count s n + 1) (maximum s n) s) m (entered m (Entries.release n) (waitsEnded s (counted n (count s n + 1) (maximum s n) s) m 24) t)
   raising n made free = counting s refl refl n (count s n + 1) (maximum s n) (withRelease t (waitsEnded s z m 24)) (made .top) (λ y.
       let h : waitsEnded s z m 24 ≡ 0 = rw (← y) (nobody-is-served s k n (made .low) (made .top) z free) in
       evened n made (count s n + 1) (withRelease t (waitsEnded s z m 24)) (omega (arith, a .even, ap (count s) y, h)))
@@ -133,23 +136,28 @@ module _ (s : State) (k : Sound s) (m : ℕ) (t : Tally) (a : Kept s m t) where
       z : State
       z = counted n (count s n + 1) (maximum s n) s
 
-  after : {j : Kind} {i : Entry} {p : Plan} → Way s j i p → Kept (carried s (p .effect)) m (cond (isZero (number (p .code))) (entered m i (waitsEnded s (carried s (p .effect)) m 24) t) t)
+  after-done : {j : Kind} {i : Entry} {c : Code} {x : Effect} → Done s j i c x → Kept (carried s x) m (cond (isZero (number c)) (entered m i (waitsEnded s (carried s x) m 24) t) t)
   unfolding carried sliced flagged toldFlag
-  after (Ways.refuses c n) = rw (refused-not (number c) n) a
-  after Ways.ticks = ticking
-  after (Ways.exits runs) = numbers (stopped (running s) s) (numbers-stopped s (running s)) a
-  after (Ways.terminates u) = numbers (stopped u s) (numbers-stopped s u) a
-  after (Ways.forces u) = numbers (moved u (ended (task s u) released 0) s) (numbers-moved s u (ended (task s u) released 0)) a
-  after (Ways.slices l v) = stays (sliced l v s) refl refl a
-  after (Ways.serves n made first) = serving n made first
-  after (Ways.raises n made free) = raising n made free
-  after (Ways.deletes n made) = deleting n (made .top)
-  after Ways.keeps = a
-  after (Ways.creates n v w low top made) = counting s refl refl n v w (begun v) top (λ _. record { even = omega arith; none = λ z. absurd (omega arith) })
-  after (Ways.takes n made left e) = taking n made left e _
-  after (Ways.flags v f b c) = stays (flagged f b c s) refl refl a
-  after (Ways.tells f w b c low top) = let z = numbers-told w (waiters s (flagRow f)) s in stays (flagged f b c (toldAll w (waiters s (flagRow f)) s)) (rw z) (rw z) a
-  after {j} {i} (Ways.moves c u x n silent keeps) = rw (not-entered (isZero (number c)) m i (waitsEnded s (moved u x s) m 24) t silent) (numbers (moved u x s) (numbers-moved s u x) a)
+  after-done Ways.ticks = ticking
+  after-done (Ways.exits runs) = numbers (stopped (running s) s) (numbers-stopped s (running s)) a
+  after-done (Ways.terminates u low top made) = numbers (stopped u s) (numbers-stopped s u) a
+  after-done (Ways.forces u low top waits) = moving u (ended (task s u) released 0)
+  after-done (Ways.slices l v low top) = stays (sliced l v s) refl refl a
+  after-done (Ways.serves n made first) = serving n made first
+  after-done (Ways.raises n made free less) = raising n made free
+  after-done (Ways.deletes n made) = deleting n (made .top)
+  after-done Ways.keeps = a
+  after-done (Ways.moves u x n c) = moving u x
+  after-done (Ways.waits w runs b) = moving (running s) (waiting (task s (running s)) w)
+  after-done (Ways.creates n v w low top fits some few free) = counting s refl refl n v w (begun v) top (λ _. record { even = omega arith; none = λ z. absurd (omega arith) })
+  after-done (Ways.takes n made left i) = taking n made left i _
+  after-done (Ways.flags f b c r) = stays (flagged f b c s) refl refl a
+  after-done (Ways.tells f w b c made r) = let z = numbers-told w (waiters s (flagRow f)) s in stays (flagged f b c (toldAll w (waiters s (flagRow f)) s)) (rw z) (rw z) a
+
+  after : {j : Kind} {i : Entry} {p : Plan} → Way s j i p → Kept (carried s (p .effect)) m (cond (isZero (number (p .code))) (entered m i (waitsEnded s (carried s (p .effect)) m 24) t) t)
+  unfolding carried
+  after (refuses c n d) = rw (refused-not (number c) n) a
+  after (accepts c v x n d done) = after-done done
 
 -- ---- any calls
 accounts : (m : ℕ) (calls : List (Context × Call)) (s : State) (t : Tally) → Sound s → Kept s m t → Kept (reachedBy step s calls) m (tally step m s calls t)
@@ -165,7 +173,7 @@ pub every-resource : EveryResource step
 every-resource calls m made = from-fresh m calls .even
 
 pub none-without : NoneWithout step
-none-without calls m free = from-fresh m calls .none (none-of (maximum (reachedBy step fresh calls) m) free)
+none-without calls m free = from-fresh m calls .none (none-of (maximum (reachedBy step fresh calls) m) .yields free)
 
 -- ---- the checked call, which answers as `step` does as long as the state is sound
 call-is-step : (s : State) (c : Context) (a : Call) → Sound s → call s c a ≡ step s c a

@@ -1,6 +1,6 @@
 -- A tick's own part: the running task's level is charged, and turned at its slice; so who stands in that level comes one tick nearer.
 -- It rests on `charged` of model/specs/Effect, on who runs (kept) and on where a task stands in a turned row (Places).
-use mathlib.Core.Path.{_≡_, refl, sym, _∙_}
+use mathlib.Core.Path.{_≡_, refl, sym}
 use mathlib.Core.Bool.{Bool, true, false, cond, not, _&&_}
 use mathlib.Core.Logic.{⊎-elim}
 use Prim.Native.Nat.{ℕ, _+_, _≤_, _<_}

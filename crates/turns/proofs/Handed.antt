@@ -16,8 +16,7 @@ use Rattle.model.specs.Sound.{Sound}
 use Rattle.laws.proofs.Number.{same?}
 use Rattle.laws.proofs.Record.{row-waits}
 use Rattle.kept.proofs.Listed.{key-first}
-use Rattle.kept.proofs.Told.{waiter-in}
-use Rattle.kept.proofs.Shape.{no-waiter}
+use Rattle.kept.proofs.Told.{waiter-in, no-waiter}
 use Rattle.turns.specs.Tally.{endsWith0, waitsEnded}
 use Rattle.turns.proofs.Still.{task-kept, task-moved}
 

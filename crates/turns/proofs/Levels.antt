@@ -16,7 +16,8 @@ use Rattle.model.specs.Task.{isDormant, isSuspended, isWaiting, isRunnable, isT
 use Rattle.model.specs.State.{slice, charge, level, moved}
 use Rattle.model.specs.Sound.{SoundTask}
 use Rattle.laws.proofs.Padded.{both}
-use Rattle.kept.proofs.Records.{some-of, level-live, live-made}
+use Rattle.ways.proofs.Tests.{some-of}
+use Rattle.kept.proofs.Records.{level-live, live-made}
 use Rattle.turns.proofs.Still.{Keyed, Still}
 
 pub on-levels : Keyed levelOf (λ s. s .levels)
@@ -42,7 +43,7 @@ level-runnable x l h e = go (isRunnable x) h
 
 -- a runnable task has a level
 pub level-some : (x : Task) → SoundTask x → T (isRunnable x) → 1 ≤ x .priority
-level-some x k h = k .priority (live-made x k (some-of (x .active) (both (not (isDormant x)) (not (isSuspended x) && not (isWaiting x)) h .0))) .0
+level-some x k h = k .priority (live-made x k (some-of (x .active) .yields (both (not (isDormant x)) (not (isSuspended x) && not (isWaiting x)) h .0))) .0
 
 pub level-none : levelOf noTask ≡ 0
 unfolding levelOf

@@ -1,7 +1,6 @@
 pub mod Words
 pub mod Pages
 pub mod Places
-pub mod Ways
 pub mod Still
 pub mod Ends
 pub mod Outcome

@@ -15,7 +15,7 @@ use Rattle.model.specs.Row.{firstOf}
 use Rattle.model.specs.Task.{nothing, rowOf}
 use Rattle.model.specs.State.{task}
 use Rattle.laws.proofs.Padded.{both}
-use Rattle.turns.specs.Kind.{Kind, kind, tick, exit, other, terminate, forcedRelease, setSlice, release, deletion}
+use Rattle.ways.specs.Kind.{Kind, kind, tick, exit, other, terminate, forcedRelease, setSlice, release, deletion}
 use Rattle.turns.specs.Statements.{next, Does, isRelease, EndsSooner, byTimeout, byForcedRelease, byTermination, byDeletion, HoldsBy, holds, sooner, passes, waits, isCharged, Each, none, each, FirstBy, first, charged, later}
 
 -- ---- first by the n-th charged tick

@@ -1,6 +1,6 @@
 -- Part B of specs/Statements: a runnable task is first of its level by the time its turn has come round.
 -- It rests on what a call does to such a task (Nearer) and goes by induction on the calls.
-use mathlib.Core.Path.{_≡_, refl, _∙_}
+use mathlib.Core.Path.{_≡_, refl}
 use mathlib.Core.Bool.{Bool, true, false, not}
 use mathlib.Core.List.{List, [], _∷_}
 use mathlib.Core.Logic.{⊎-elim}
@@ -22,7 +22,7 @@ use Rattle.kept.proofs.Kept.{sound-stays-sound}
 use Rattle.turns.specs.Statements as Say
 use Rattle.turns.specs.Statements.{next, isCharged, charges, IsFirst, StaysRunnable, NotTerminated, KeepsPriority, SliceNotSet, Each, none, each, FirstBy, TurnsComeRound}
 use Rattle.turns.proofs.Places.{place-first}
-use Rattle.turns.proofs.Ways.{way}
+use Rattle.ways.proofs.Ways.{way}
 use Rattle.turns.proofs.Levels.{level-runnable, level-some, Nearer}
 use Rattle.turns.proofs.Charged.{listed}
 use Rattle.turns.proofs.Nearer.{nearer}

@@ -16,8 +16,9 @@ use Rattle.model.specs.Plan.{isMade}
 use Rattle.model.specs.Call.{step}
 use Rattle.model.specs.Test.{one}
 use Rattle.model.specs.Sound.{Sound}
-use Rattle.turns.specs.Kind.{Kind, tick, terminate, forcedRelease, setSlice, deletion, kind, isTick, isReleaseOf}
-use Rattle.turns.specs.Tally.{Kernel, reachedBy, entry, releasedBy, isZero, Tally, noTally, tally}
+use Rattle.ways.specs.Kind.{Kind, tick, terminate, forcedRelease, setSlice, deletion, kind, isTick, isReleaseOf}
+use Rattle.ways.specs.Entry.{entry}
+use Rattle.turns.specs.Tally.{Kernel, reachedBy, releasedBy, isZero, Tally, noTally, tally}
 
 -- ---- a call, with the context it comes from
 -- the state after it
