@@ -17,10 +17,9 @@ use Rattle.ways.specs.Kind.{Kind}
 use Rattle.ways.specs.Entry.{Entry}
 use Rattle.ways.proofs.Done.{Made, Done}
 use Rattle.ways.proofs.Done.{Done as Ways}
-use Rattle.kept.proofs.Listed.{key-first}
 use Rattle.kept.proofs.Changes.{sound-moved, sound-counted, sound-flagged, sound-sliced}
 use Rattle.kept.proofs.Records.{live-made, waiting-live, row-live, sound-ended}
-use Rattle.kept.proofs.Told.{may-none, waiter-in, no-waiter}
+use Rattle.kept.proofs.Told.{may-none, waiter-in, first-waits, no-waiter}
 use Rattle.kept.proofs.Effects.{sound-stopped, sound-deleted, sound-toldFlag, sound-ticked}
 use Rattle.kept.proofs.Running.{runner}
 use Rattle.kept.proofs.Changed.{named-in, change-sound, change-may, begins-sound, begins-may, reflag-fits, tell-fits}
@@ -35,7 +34,7 @@ module _ {s : State} (k : Sound s) where
   serving : (m : ℕ) → Made s m → 1 ≤ firstOf (s .waits) m → Sound (moved (firstOf (s .waits) m) (ended (task s (firstOf (s .waits) m)) served 0) s)
   serving m made some =
       let t = firstOf (s .waits) m in
-      let e = key-first (s .waits) 21 (λ u. rowOf (task s u)) (k .waits) m (omega (arith, made .top)) (λ z. omega arith) .1 in
+      let e = first-waits s k m (omega (arith, made .top)) some in
       ending t served (waiter-in s k t (omega (arith, made .low))) (row-live (task s t) (k .tasks t) (omega (arith, made .low))) tt
 
   -- m gets another count, which is 0 if anyone waits

@@ -19,6 +19,7 @@ use Rattle.model.specs.Sound.{SoundTask, Sound}
 use Rattle.laws.proofs.Record.{flag-row}
 use Rattle.kept.proofs.Changes.{sound-moved, sound-counted, sound-flagged, sound-withCharge, sound-rotated, sound-withTime}
 use Rattle.kept.proofs.Records.{Stays, sound-dormant, sound-activated, sound-aged, aged-row}
+use Rattle.kept.proofs.Numbers.{numbers-told}
 use Rattle.kept.proofs.Told.{may-none, may-same, waiter-in, Told, told-row}
 
 -- attributes a and bits b fit flag f once those who wait on it were told w
@@ -54,7 +55,7 @@ pub sound-deleted : (s : State) → Sound s → (m : ℕ) → 1 ≤ m → m ≤ 
 unfolding deleted
 sound-deleted s k m some top = sound-counted (toldAll Deleted (waiters s m) s) m 0 0 (z .sound) some (omega arith) (omega arith) (λ t e. absurd (nobody t e))
   where
-    z : Told Deleted m s (toldAll Deleted (waiters s m) s)
+    z : Told Deleted m (toldAll Deleted (waiters s m) s)
     z = told-row Deleted s k m some (omega arith)
 
     nobody : (t : ℕ) → rowOf (task (toldAll Deleted (waiters s m) s) t) ≡ m → ⊥
@@ -66,13 +67,13 @@ sound-toldFlag s k f w a b low top fits = rw (flag-row f low top) (sound-flagged
   kept = fits .kept;
   none = fits .none;
   unmet = λ t e. fits .unmet (task s′ t) (z .sound .tasks t) e (z .stays t (waiter-in s′ (z .sound) t (omega arith) .0) e);
-  single = λ one t u. z .sound .flags .single f t u low top (rw (z .kept) (fits .single one));
+  single = λ one t u. z .sound .flags .single f t u low top (rw (numbers-told w (waiters s (f + 12)) s) (fits .single one));
 }))
   where
     s′ : State
     s′ = toldAll w (waiters s (f + 12)) s
 
-    z : Told w (f + 12) s s′
+    z : Told w (f + 12) s′
     z = told-row w s k (f + 12) (omega arith) (omega arith)
 
 -- ---- a tick passes

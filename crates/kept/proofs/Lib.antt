@@ -1,6 +1,7 @@
 pub mod Listed
 pub mod Changes
 pub mod Records
+pub mod Numbers
 pub mod Told
 pub mod Effects
 pub mod Running

@@ -5,7 +5,6 @@ pub mod Still
 pub mod Ends
 pub mod Outcome
 pub mod Served
-pub mod Numbers
 pub mod Levels
 pub mod Charged
 pub mod Nearer

@@ -27,8 +27,8 @@ use Rattle.laws.proofs.Number.{same?}
 use Rattle.laws.proofs.Relisted.{row-relisted-from}
 use Rattle.laws.proofs.Occ.{one-eq, one-ne, one-not}
 use Rattle.laws.proofs.Record.{row-waits, flag-row}
-use Rattle.kept.proofs.Listed.{key-of, key-first, listed-in}
-use Rattle.kept.proofs.Told.{waiter-in, no-waiter}
+use Rattle.kept.proofs.Listed.{key-of, listed-in}
+use Rattle.kept.proofs.Told.{waiter-in, first-waits, no-waiter}
 use Rattle.kept.proofs.Running.{runner}
 use Rattle.kept.proofs.Changed.{change-row}
 use Rattle.ways.specs.Kind as Kinds
@@ -104,7 +104,7 @@ module _ (s : State) (k : Sound s) (m t : ℕ) (h : 1 ≤ m) (top : m ≤ 12) (e
       u = firstOf (s .waits) n
 
       g : rowOf (task s u) ≡ n
-      g = key-first (s .waits) 21 (λ i. rowOf (task s i)) (k .waits) n (omega arith) (λ z. omega arith) .1
+      g = first-waits s k n (omega arith) some
 
       go : (u ≡ t) ⊎ (u ≡ t → ⊥) → (n ≡ m) ⊎ (n ≡ m → ⊥) → Outcome s m t (release n) NoErr (Moves u (ended (task s u) served 0))
       go (inl z) b = let y : n ≡ m = sym g ∙ ap (λ i. rowOf (task s i)) z ∙ e in holds (rw y (eqb-refl m)) (over u served z)
