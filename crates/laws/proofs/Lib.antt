@@ -8,3 +8,4 @@ pub mod Padded
 pub mod Room
 pub mod Bits
 pub mod Record
+pub mod Waits
