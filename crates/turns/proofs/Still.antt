@@ -11,6 +11,7 @@ use lib.ListN.{length, length-set}
 use lib.Seq.{getD-set-same, getD-set-other, set-out}
 use borrow.Author.Tests.{eq-eqb, ne-eqb}
 use Rattle.model.specs.declared.Task.{Task}
+use Rattle.model.specs.declared.Queue.{Queue}
 use Rattle.model.specs.declared.State.{State}
 use Rattle.model.specs.Row.{place, row, relisted}
 use Rattle.model.specs.declared.News.{News}
@@ -48,7 +49,7 @@ task-either P s u x t here else = ⊎-elim
 
 -- a tick's charge moves no task and no waiter, and counts for no semaphore
 pub tasks-charged : (s : State) (run : ℕ)
-    → (charged run s .tasks ≡ s .tasks) × (charged run s .waits ≡ s .waits) × (charged run s .counts ≡ s .counts) × (charged run s .maxima ≡ s .maxima)
+    → (charged run s .tasks ≡ s .tasks) × (charged run s .waits ≡ s .waits) × (charged run s .numbers .counts ≡ s .numbers .counts) × (charged run s .numbers .maxima ≡ s .numbers .maxima)
 unfolding charged chargedLevel rotated
 tasks-charged s run = go (eqb run 0) (eqb (slice s (task s run .priority)) 0) (ltb (charge s (task s run .priority) + 1) (slice s (task s run .priority)))
   where
@@ -58,21 +59,21 @@ tasks-charged s run = go (eqb run 0) (eqb (slice s (task s run .priority)) 0) (l
     z : Bool → Bool → Bool → State
     z a b c = cond a s (cond b s (cond c (withCharge l (charge s l + 1) s) (rotated l (withCharge l 0 s))))
 
-    go : (a b c : Bool) → (z a b c .tasks ≡ s .tasks) × (z a b c .waits ≡ s .waits) × (z a b c .counts ≡ s .counts) × (z a b c .maxima ≡ s .maxima)
+    go : (a b c : Bool) → (z a b c .tasks ≡ s .tasks) × (z a b c .waits ≡ s .waits) × (z a b c .numbers .counts ≡ s .numbers .counts) × (z a b c .numbers .maxima ≡ s .numbers .maxima)
     go true b c = (refl, refl, refl, refl)
     go false true c = (refl, refl, refl, refl)
     go false false true = (refl, refl, refl, refl)
     go false false false = (refl, refl, refl, refl)
 
 -- ---- a key and its table
-pub record Keyed (key : Task → ℕ) (table : State → List ℕ) : Type 0 where
+pub record Keyed (key : Task → ℕ) (table : State → List Queue) : Type 0 where
   pub relists : (s : State) (u : ℕ) (x : Task) → table (moved u x s) ≡ relisted (table s) (key (task s u)) (key x) u
 
-pub record Still (key : Task → ℕ) (table : State → List ℕ) (l t : ℕ) (s s′ : State) : Type 0 where
+pub record Still (key : Task → ℕ) (table : State → List Queue) (l t : ℕ) (s s′ : State) : Type 0 where
   pub keyed : key (task s′ t) ≡ l
   pub nearer : place (row (table s′) l) t ≤ place (row (table s) l) t
 
-module _ {key : Task → ℕ} {table : State → List ℕ} (keyed : Keyed key table) (l t : ℕ) (some : 1 ≤ t) where
+module _ {key : Task → ℕ} {table : State → List Queue} (keyed : Keyed key table) (l t : ℕ) (some : 1 ≤ t) where
   pub still-same : (s : State) → key (task s t) ≡ l → Still key table l t s s
   still-same s e = record { keyed = e; nearer = omega arith }
 
