@@ -19,7 +19,7 @@ use Rattle.model.specs.Sound.{SoundTask, Sound}
 use Rattle.laws.proofs.Record.{flag-row}
 use Rattle.kept.proofs.Changes.{sound-moved, sound-counted, sound-flagged, sound-withCharge, sound-rotated, sound-withTime}
 use Rattle.kept.proofs.Records.{Stays, sound-dormant, sound-activated, sound-aged, aged-row}
-use Rattle.kept.proofs.Numbers.{numbers-told}
+use Rattle.kept.proofs.Moved.{numbers-told}
 use Rattle.kept.proofs.Told.{may-none, may-same, waiter-in, Told, told-row}
 
 -- attributes a and bits b fit flag f once those who wait on it were told w

@@ -1,7 +1,7 @@
 pub mod Listed
+pub mod Moved
 pub mod Changes
 pub mod Records
-pub mod Numbers
 pub mod Told
 pub mod Effects
 pub mod Running

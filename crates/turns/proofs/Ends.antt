@@ -20,8 +20,8 @@ use Rattle.laws.proofs.Number.{same?}
 use Rattle.laws.proofs.Occ.{one-ne, occ-none, occ-cons}
 use Rattle.laws.proofs.Padded.{padded-rest, first-none}
 use Rattle.laws.proofs.Record.{row-waits}
+use Rattle.kept.proofs.Moved.{task-kept, task-moved, tasks-moved}
 use Rattle.turns.specs.Statements.{Ended}
-use Rattle.turns.proofs.Still.{task-kept, task-moved, tasks-moved}
 
 -- ---- a tick
 lapsed-past : (n i : ℕ) (s : State) (t : ℕ) → t < i → task (lapsed n i s) t ≡ task s t

@@ -16,8 +16,8 @@ use Rattle.model.specs.Sound.{Sound}
 use Rattle.laws.proofs.Number.{same?}
 use Rattle.laws.proofs.Record.{row-waits}
 use Rattle.kept.proofs.Told.{waiter-in, first-waits, no-waiter}
+use Rattle.kept.proofs.Moved.{task-kept, task-moved}
 use Rattle.turns.specs.Tally.{endsWith0, waitsEnded}
-use Rattle.turns.proofs.Still.{task-kept, task-moved}
 
 -- ---- how many end, by who does
 module _ (s s′ : State) (m : ℕ) where

@@ -29,8 +29,8 @@ use Rattle.ways.specs.Kind.{Kind, setSlice, isTick}
 use Rattle.ways.specs.Entry.{Entry}
 use Rattle.ways.proofs.Done.{Done, Way, refuses, accepts}
 use Rattle.ways.proofs.Done.{Done as Ways}
-use Rattle.turns.proofs.Still.{tasks-charged, task-moved, still-moved, still-stopped, still-told, still-lapsed}
-use Rattle.kept.proofs.Numbers.{numbers-moved, numbers-stopped, numbers-told, numbers-lapsed}
+use Rattle.turns.proofs.Still.{tasks-charged, still-moved, still-stopped, still-told, still-lapsed}
+use Rattle.kept.proofs.Moved.{task-moved, numbers-moved, numbers-stopped, numbers-told, numbers-lapsed}
 use Rattle.turns.proofs.Levels.{on-levels, level-ended, level-told, level-aged, Nearer, nearer-still, nearer-then}
 use Rattle.turns.proofs.Charged.{low, long, runs-not, nearer-charged}
 

@@ -34,12 +34,13 @@ use Rattle.kept.proofs.Changed.{change-row}
 use Rattle.ways.specs.Kind as Kinds
 use Rattle.ways.specs.Kind.{Kind, forcedRelease, release, deletion, isReleaseOf}
 use Rattle.ways.specs.Entry.{Entry}
+use Rattle.kept.proofs.Moved.{task-moved}
 use Rattle.turns.specs.Statements.{Ended}
 use Rattle.turns.proofs.Places.{place-served}
 use Rattle.ways.proofs.Done.{Done, Way, refuses, accepts}
 use Rattle.ways.proofs.Done.{Done as Ways}
 use Rattle.turns.proofs.Ends.{lapsed-at, aged-waits, stopped-at, ended-at}
-use Rattle.turns.proofs.Still.{tasks-charged, task-moved, Keyed, Still, still-same, still-then, still-moved, still-stopped, still-told, still-lapsed}
+use Rattle.turns.proofs.Still.{tasks-charged, Keyed, Still, still-same, still-then, still-moved, still-stopped, still-told, still-lapsed}
 
 on-waits : Keyed rowOf (λ s. s .waits)
 unfolding moved

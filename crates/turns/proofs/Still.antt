@@ -7,35 +7,24 @@ use mathlib.Core.Logic.{⊎-elim}
 use Prim.Native.Nat.{ℕ, zero, suc, _+_, _≤_, _<_}
 use native.Mathlib.Omega.{arith}
 use lib.Dec.{eqb, ltb}
-use lib.ListN.{length, length-set}
-use lib.Seq.{getD-set-same, getD-set-other, set-out}
+use lib.ListN.{length}
+use lib.Seq.{set-out}
 use borrow.Author.Tests.{eq-eqb, ne-eqb}
 use Rattle.model.specs.declared.Task.{Task}
 use Rattle.model.specs.declared.Queue.{Queue}
 use Rattle.model.specs.declared.State.{State}
 use Rattle.model.specs.Row.{place, row, relisted}
 use Rattle.model.specs.declared.News.{News}
-use Rattle.model.specs.Task.{noTask, dormant, activated, aged, told}
+use Rattle.model.specs.Task.{dormant, activated, aged, told}
 use Rattle.model.specs.State.{task, slice, charge, moved, withCharge, rotated}
 use Rattle.model.specs.Effect.{stopped, toldAll, chargedLevel, charged, lapsed}
 use Rattle.model.specs.Test.{occ}
 use Rattle.laws.proofs.Number.{same?, below?}
 use Rattle.laws.proofs.Occ.{occ-cons, one-eq}
+use Rattle.kept.proofs.Moved.{task-kept, task-moved}
 use Rattle.turns.proofs.Places.{place-relisted}
 
 -- ---- the record of t after a move
-pub task-kept : (s : State) (u : ℕ) (x : Task) (t : ℕ) → (u ≡ t → ⊥) → task (moved u x s) t ≡ task s t
-unfolding moved
-task-kept s u x t apart = getD-set-other (s .tasks) u t x noTask (λ e. apart (sym e))
-
-pub task-moved : (s : State) (t : ℕ) (x : Task) → t < length (s .tasks) → task (moved t x s) t ≡ x
-unfolding moved
-task-moved s t x h = getD-set-same (s .tasks) t x noTask h
-
-pub tasks-moved : (s : State) (u : ℕ) (x : Task) → length (moved u x s .tasks) ≡ length (s .tasks)
-unfolding moved
-tasks-moved s u x = length-set (s .tasks) u x
-
 -- what holds of its own new record, and of its old one, holds of its record
 pub task-either : (P : Task → Type 0) (s : State) (u : ℕ) (x : Task) (t : ℕ) → (u ≡ t → P x) → P (task s t) → P (task (moved u x s) t)
 unfolding moved

@@ -24,7 +24,7 @@ unfoldable pub reachedBy : Kernel → State → List (Context × Call) → State
 reachedBy k s [] = s
 reachedBy k s (a ∷ rest) = reachedBy k (k s (a .0) (a .1) .state) rest
 
--- ---- what a call is to a tally stands in Entry of ways
+-- ---- entries; what a call is to a tally is said in Entry of ways
 -- the semaphore that it releases, else 0
 abbrev pub releasedBy : Entry → ℕ
 releasedBy (creation m n) = 0

@@ -1,4 +1,4 @@
--- The ways of a plan: it refuses with a negative code of one digit, or does one of the things that are listed here, each with what its tests have shown.
+-- The ways of a plan: it refuses with a negative code of one digit, or does one of the things listed here, each with what its tests have shown that a theorem asks for.
 -- It speaks of the records of model/specs/Task and of what stands in a state, sound or not; Ways has the one pass over the services.
 use mathlib.Core.Path.{_≡_}
 use mathlib.Core.Bool.{Bool, true, false, cond, not, _&&_}
