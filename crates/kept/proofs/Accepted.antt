@@ -10,7 +10,7 @@ use Rattle.model.specs.declared.Code.{Code}
 use Rattle.model.specs.Row.{firstOf}
 use Rattle.model.specs.Task.{served, released, rowOf, waiting, ended}
 use Rattle.model.specs.State.{task, count, maximum, running, moved, counted}
-use Rattle.model.specs.Effect.{carried}
+use Rattle.model.specs.Effect.{ticked, carried}
 use Rattle.model.specs.Test.{isWaitCode}
 use Rattle.model.specs.Sound.{Sound}
 use Rattle.ways.specs.Kind.{Kind}
@@ -42,7 +42,7 @@ module _ {s : State} (k : Sound s) where
   counting m n made most free = sound-counted s m n (maximum s m) k (made .low) most (k .semaphores .maxima m) (λ t e. (free t e, made .made))
 
   pub sound-done : {j : Kind} {i : Entry} {c : Code} {x : Effect} → Done s j i c x → Sound (carried s x)
-  unfolding carried
+  unfolding carried ticked
   sound-done Ways.ticks = sound-ticked s k
   sound-done (Ways.exits some) = let r = runner s k some in sound-stopped s k (running s) (r .low) (r .top) (live-made (task s (running s)) (k .tasks (running s)) (r .live))
   sound-done (Ways.terminates u low top made) = sound-stopped s k u low top made

@@ -16,8 +16,8 @@ use Rattle.model.specs.declared.Code.the-variants.{Unsound}
 use Rattle.model.specs.Row.{bestFrom}
 use Rattle.model.specs.State.{task, running, semaphore, flag}
 use Rattle.model.specs.Services.{isMine}
-use Rattle.model.specs.Effect.{carriedFrom}
-use Rattle.model.specs.Call.{named, subject, plan, stepFrom, step, call}
+use Rattle.model.specs.Effect.{carriedFrom, carried}
+use Rattle.model.specs.Call.{named, subject, plan, planned, stepFrom, step, call}
 use Rattle.model.specs.Test.{isSound}
 
 pub stepped : (s : State) (c : Context) (a : Call) (run m : ℕ) (x : Semaphore) (y : Flag) (t : ℕ) (k : Task) (mine : Bool) (p : Plan) (s₁ : State) (run₁ : ℕ)
@@ -38,12 +38,12 @@ module _ (s z : State) (e : z ≡ s) (c : Context) (a : Call) (sound : Bool) (f 
 
   -- one that is sound is stepped
   pub answered : (run : ℕ) (r : Answer) → not sound ≡ false → run ≡ bestFrom 30 1 (z .levels) → r ≡ stepFrom run z c a → r ≡ call s c a
-  unfolding call step running
+  unfolding call step planned carried running
   answered run r g h i = rw (← e, ← f, not-false sound g) (rw h at i)
 
 -- where `run` runs, the step is that of the model
 pub step-from : (s : State) (run : ℕ) (c : Context) (a : Call) → run ≡ bestFrom 30 1 (s .levels) → stepFrom run s c a ≡ step s c a
-unfolding step running
+unfolding step planned carried running
 step-from s run c a e = rw e
 
 -- who runs after a step is who runs before the next one

@@ -137,7 +137,7 @@ module _ (s : State) (k : Sound s) (m : ℕ) (t : Tally) (a : Kept s m t) where
       z = counted n (count s n + 1) (maximum s n) s
 
   after-done : {j : Kind} {i : Entry} {c : Code} {x : Effect} → Done s j i c x → Kept (carried s x) m (cond (isZero (number c)) (entered m i (waitsEnded s (carried s x) m 24) t) t)
-  unfolding carried sliced flagged toldFlag
+  unfolding carried ticked sliced flagged toldFlag
   after-done Ways.ticks = ticking
   after-done (Ways.exits runs) = numbers (stopped (running s) s) (numbers-stopped s (running s)) a
   after-done (Ways.terminates u low top made) = numbers (stopped u s) (numbers-stopped s u) a

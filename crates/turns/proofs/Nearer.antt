@@ -104,7 +104,7 @@ module _ (s : State) (k : Sound s) (l t : ℕ) (h : 1 ≤ l) (e : levelOf (task 
 
   nearer-done : {j : Kind} {i : Entry} {c : Code} {x : Effect} → Done s j i c x → Spared l t j → levelOf (task (carried s x) t) ≡ l → 1 ≤ slice s l → 1 ≤ place (level s l) t
       → Nearer l t s (carried s x) (counts j)
-  unfolding carried counted flagged
+  unfolding carried ticked counted flagged
   nearer-done Ways.ticks spared after some behind = ticking some behind
   nearer-done (Ways.exits runs) spared after some behind = stopping (running s) (runs-not s k l t h e behind)
   nearer-done (Ways.terminates u low top made) spared after some behind = stopping u (λ z. spared .alive (ap Kinds.terminate z))
