@@ -34,10 +34,6 @@ use Rattle.lines.specs.Services.{Service, services, label, callOf, nameI
 use Rattle.lines.specs.Fields.{fieldOf, numberThen, commaField, endOf, endThen, lastField, tailField, narrowTail, wideTail, tailOf, fieldThen, tailThen, fieldsOf}
 use Rattle.lines.specs.Lines.{letterOf, letterThen, nameThen, fieldsThen, lineOf, headerThen, headed, headerOf}
 
--- what a call's result was found to be, said of what the callee ensures of it
-pub got : {A : Type 0} {r x y : A} → r ≡ x → r ≡ y → x ≡ y
-got p q = sym p ∙ q
-
 -- each answer's length is at most that
 abbrev pub EndIn : End → ℕ → Type 0
 EndIn (Closes k) l = k ≤ l

@@ -4,7 +4,7 @@ use native.Mathlib.Omega.{arith}
 use borrow.Author.Tests.{eq-eqb, ne-eqb}
 use Rattle.text.proofs.Places.{is-within}
 use Rattle.lines.specs.Fields.{commaField}
-use Rattle.lines.proofs.Within.{got}
+use Rattle.text.proofs.Reading.{got}
 use borrow.Author.Needs.{needs}
 use Rattle.lines.proofs.fields.comma_field.Statement.{statement}
 use Rattle.lines.proofs.fields.comma_field.Tie as tie

@@ -8,7 +8,8 @@ use Rattle.text.specs.declared.number.Number.the-variants.{Digits}
 use Rattle.text.proofs.Places.{part-of}
 use Rattle.lines.specs.declared.fields.End.the-variants.{Closes}
 use Rattle.lines.specs.Fields.{fieldOf, endOf, lastField}
-use Rattle.lines.proofs.Within.{got, after, field-in, end-in}
+use Rattle.text.proofs.Reading.{got}
+use Rattle.lines.proofs.Within.{after, field-in, end-in}
 use borrow.Author.Needs.{needs}
 use Rattle.lines.proofs.fields.last_field.Statement.{statement}
 use Rattle.lines.proofs.fields.last_field.Tie as tie

@@ -2,7 +2,7 @@
 -- It rests on the definition alone.
 use borrow.Author.Tests.{eq-eqb, ne-eqb}
 use Rattle.lines.specs.Fields.{endOf}
-use Rattle.lines.proofs.Within.{got}
+use Rattle.text.proofs.Reading.{got}
 use borrow.Author.Needs.{needs}
 use Rattle.lines.proofs.fields.line_end.Statement.{statement}
 use Rattle.lines.proofs.fields.line_end.Tie as tie

@@ -2,7 +2,7 @@
 -- It rests on the definition alone.
 use borrow.Author.Tests.{lt-ltb, le-ltb}
 use Rattle.lines.specs.Fields.{narrowTail}
-use Rattle.lines.proofs.Within.{got}
+use Rattle.text.proofs.Reading.{got}
 use borrow.Author.Needs.{needs}
 use Rattle.lines.proofs.fields.narrow_tail.Statement.{statement}
 use Rattle.lines.proofs.fields.narrow_tail.Tie as tie

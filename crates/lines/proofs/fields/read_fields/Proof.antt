@@ -9,7 +9,8 @@ use Rattle.text.specs.declared.number.Number.the-variants.{Digits}
 use Rattle.text.proofs.Places.{part-of}
 use Rattle.lines.specs.declared.fields.Tail.the-variants.{Two}
 use Rattle.lines.specs.Fields.{commaField, tailOf, fieldsOf}
-use Rattle.lines.proofs.Within.{got, after, comma-in, tail-in}
+use Rattle.text.proofs.Reading.{got}
+use Rattle.lines.proofs.Within.{after, comma-in, tail-in}
 use borrow.Author.Needs.{needs}
 use Rattle.lines.proofs.fields.read_fields.Statement.{statement}
 use Rattle.lines.proofs.fields.read_fields.Tie as tie

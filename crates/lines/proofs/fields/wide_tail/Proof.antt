@@ -8,7 +8,8 @@ use lib.ListN.{length, drop}
 use Rattle.text.specs.declared.number.Number.the-variants.{Digits}
 use Rattle.text.proofs.Places.{part-of}
 use Rattle.lines.specs.Fields.{commaField, lastField, wideTail}
-use Rattle.lines.proofs.Within.{got, after, comma-in, last-in}
+use Rattle.text.proofs.Reading.{got}
+use Rattle.lines.proofs.Within.{after, comma-in, last-in}
 use borrow.Author.Needs.{needs}
 use Rattle.lines.proofs.fields.wide_tail.Statement.{statement}
 use Rattle.lines.proofs.fields.wide_tail.Tie as tie

@@ -12,7 +12,8 @@ use Rattle.text.proofs.Places.{part-of}
 use Rattle.lines.specs.declared.fields.End.the-variants.{Closes}
 use Rattle.lines.specs.Fields.{endOf}
 use Rattle.lines.specs.Lines.{headed}
-use Rattle.lines.proofs.Within.{got, after, end-in}
+use Rattle.text.proofs.Reading.{got}
+use Rattle.lines.proofs.Within.{after, end-in}
 use borrow.Author.Needs.{needs}
 use Rattle.lines.proofs.line.headed.Statement.{statement}
 use Rattle.lines.proofs.line.headed.Tie as tie

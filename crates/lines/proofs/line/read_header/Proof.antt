@@ -1,7 +1,7 @@
 -- `lines::line::read_header` meets its contract: six fields, or else five.
 -- It rests on the definition alone.
 use Rattle.lines.specs.Lines.{headerOf}
-use Rattle.lines.proofs.Within.{got}
+use Rattle.text.proofs.Reading.{got}
 use borrow.Author.Needs.{needs}
 use Rattle.lines.proofs.line.read_header.Statement.{statement}
 use Rattle.lines.proofs.line.read_header.Tie as tie

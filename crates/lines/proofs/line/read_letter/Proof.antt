@@ -1,7 +1,7 @@
 -- `lines::line::read_letter` meets its contract: letter by letter.
 -- It rests on the definition alone.
 use Rattle.lines.specs.Lines.{letterOf}
-use Rattle.lines.proofs.Within.{got}
+use Rattle.text.proofs.Reading.{got}
 use borrow.Author.Needs.{needs}
 use Rattle.lines.proofs.line.read_letter.Statement.{statement}
 use Rattle.lines.proofs.line.read_letter.Tie as tie

@@ -11,7 +11,8 @@ use Rattle.lines.specs.declared.line.Letter.the-variants.{Is}
 use Rattle.lines.specs.Services.{nameOf}
 use Rattle.lines.specs.Fields.{fieldsOf}
 use Rattle.lines.specs.Lines.{letterOf, lineOf}
-use Rattle.lines.proofs.Within.{got, after, letter-in, name-in, fields-in}
+use Rattle.text.proofs.Reading.{got}
+use Rattle.lines.proofs.Within.{after, letter-in, name-in, fields-in}
 use borrow.Author.Needs.{needs}
 use Rattle.lines.proofs.line.read_line.Statement.{statement}
 use Rattle.lines.proofs.line.read_line.Tie as tie
