@@ -1,3 +1,4 @@
-pub mod Keys
 pub mod Numbers
+pub mod Keys
 pub mod Table
+pub mod Known

@@ -1,14 +1,17 @@
 -- `lines::line::read_line` meets its contract: context, service and fields, each in the part that begins with it.
 -- It rests on the definition, and on what is read being within the bytes.
 use Prim.Native.Nat.{_+_, _≤_}
+use mathlib.Core.Bool.{true}
 use mathlib.Core.Path.{_≡_}
 use native.Mathlib.Omega.{arith}
 use lib.ListN.{length, drop}
 use Rattle.text.proofs.Places.{part-of}
-use Rattle.lines.specs.declared.names.Name.the-variants.{Known}
+use Rattle.services.specs.declared.names.Name.the-variants.{Known}
 use Rattle.lines.specs.declared.fields.Fields.the-variants.{Four}
 use Rattle.lines.specs.declared.line.Letter.the-variants.{Is}
-use Rattle.lines.specs.Services.{nameOf}
+use Rattle.services.specs.Names.{nameOf}
+use Rattle.services.specs.Calls.{isService}
+use Rattle.services.proofs.Known.{name-known, call-made, call-there}
 use Rattle.lines.specs.Fields.{fieldsOf}
 use Rattle.lines.specs.Lines.{letterOf, lineOf}
 use Rattle.text.proofs.Reading.{got}
@@ -40,6 +43,10 @@ e3 c =
     let e = c .before .before .before .before .before in
     let w = c .before .before .before .before .before .before .before .before .before .before .before .before .before .before .args in
     got (part-of (fieldsOf (w .wide) (e .number .given .0 .1 .0)) (w .s .now) (2 + e .number .given .0 .1 .1 .0) (c .before .before .read-fields .ensures)) (c .a .given .1)
+
+-- the number of a known name is a service's
+known : (c : tie.After-number) → isService (c .number .given .0 .0) ≡ true
+known c = rw (e2 c) at (name-known (drop 2 (c .before .before .before .before .before .before .before .before .before .args .s .now)))
 
 read-letter-requires : tie.Need-read-letter-requires
 read-letter-requires c κs = search needs
@@ -107,17 +114,35 @@ returns-3 c =
 call-of-requires : tie.Need-call-of-requires
 call-of-requires c κs = search needs
 
-add-t17 : tie.Need-add-t17
-add-t17 c =
-    let e = c .before .before .before .before .before .before .before in
-    let w = c .before .before .before .before .before .before .before .before .before .before .before .before .before .before .before .before .args in
-    let s = w .s .now in
-    let n = 2 + e .number .given .0 .1 .1 .0 in
-    omega (arith, after s n (c .before .before .a .given .0 .1 .1 .1 .1 .0) (in2 e) (rw (e3 (c .before .before)) at (fields-in (w .wide) (e .number .given .0 .1 .0) (drop n s))), c .before .before .before .before .before .before .before .before .before .before .before .before .before .before .before .before .good)
+enum-known-call : tie.Need-enum-known-call
+enum-known-call c = search needs
+
+enum-told-4 : tie.Need-enum-told-4
+enum-told-4 c = search needs
 
 returns-4 : tie.Need-returns-4
+returns-4 c =
+    let x = c .before .before .before .before in
+    let e = x .before .before .before .before .before in
+    absurd
+    (call-there (e .number .given .0 .0) (x .a .given .0 .0) (x .a .given .0 .1 .0) (x .a .given .0 .1 .1 .0) (x .a .given .0 .1 .1 .1 .0) (known e) (c .before .before .call-of .ensures) (c .enum-told4 .given .1))
+
+add-t17 : tie.Need-add-t17
+add-t17 c =
+    let x = c .before .before .before .before .before in
+    let e = x .before .before .before .before .before in
+    let w = x .before .before .before .before .before .before .before .before .before .before .before .before .before .before .args in
+    let s = w .s .now in
+    let n = 2 + e .number .given .0 .1 .1 .0 in
+    omega (arith, after s n (x .a .given .0 .1 .1 .1 .1 .0) (in2 e) (rw (e3 x) at (fields-in (w .wide) (e .number .given .0 .1 .0) (drop n s))), x .before .before .before .before .before .before .before .before .before .before .before .before .before .before .good)
+
+returns-5 : tie.Need-returns-5
 unfolding lineOf
-returns-4 c = rw (c .call-of .ensures) (simp (e1 (c .before .before .before .before .before .before .before .before .before .before .before .before)) (simp (e2 (c .before .before .before .before .before .before .before)) (simp (e3 (c .before .before)))))
+returns-5 c =
+    let x = c .before .before .before .before .before in
+    let e = x .before .before .before .before .before in
+    rw (call-made (e .number .given .0 .0) (x .a .given .0 .0) (x .a .given .0 .1 .0) (x .a .given .0 .1 .1 .0) (x .a .given .0 .1 .1 .1 .0) (known e) (c .before .before .before .call-of .ensures) (c .before .call .given .1))
+    (simp (e1 (x .before .before .before .before .before .before .before .before .before .before)) (simp (e2 e) (simp (e3 x))))
 
 pub read-line-spec : {M : Type 1} → statement M
 read-line-spec =
@@ -143,5 +168,8 @@ read-line-spec =
     enum-told-3
     returns-3
     call-of-requires
+    enum-known-call
+    enum-told-4
+    returns-4
     add-t17
-    returns-4)
+    returns-5)
