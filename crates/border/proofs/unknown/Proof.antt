@@ -4,12 +4,6 @@ use borrow.Author.Needs.{needs}
 use Rattle.border.proofs.unknown.Statement.{statement}
 use Rattle.border.proofs.unknown.Tie as tie
 
-is-sound-requires : tie.Need-is-sound-requires
-is-sound-requires c κs = search needs
-
-running-requires : tie.Need-running-requires
-running-requires c κs = search needs
-
 returns : tie.Need-returns
 unfolding unknown
 returns c = rw (c .running .ensures, ← c .before .before .is-sound .ensures, c .before .if1 .taken)
@@ -19,4 +13,4 @@ unfolding unknown
 returns-2 c = rw (← c .before .is-sound .ensures, c .if1 .left)
 
 pub unknown-spec : {M : Type 1} → statement M
-unknown-spec = tie.close (tie.spec is-sound-requires running-requires returns returns-2)
+unknown-spec = tie.close (tie.spec (λ c κs. search needs) (λ c κs. search needs) returns returns-2)

@@ -48,15 +48,6 @@ e3 c =
 known : (c : tie.After-number) → isService (c .number .given .0 .0) ≡ true
 known c = rw (e2 c) at (name-known (drop 2 (c .before .before .before .before .before .before .before .before .before .args .s .now)))
 
-read-letter-requires : tie.Need-read-letter-requires
-read-letter-requires c κs = search needs
-
-enum-known-context : tie.Need-enum-known-context
-enum-known-context c = search needs
-
-enum-told : tie.Need-enum-told
-enum-told c = search needs
-
 returns : tie.Need-returns
 unfolding lineOf
 returns c = simp (got (c .before .before .read-letter .ensures) (c .enum-told .given .1))
@@ -66,18 +57,6 @@ sub-read-name c = in1 (c .before)
 
 part-read-name-start : tie.Need-part-read-name-start
 part-read-name-start c = in1 (c .before)
-
-part-read-name-end : tie.Need-part-read-name-end
-part-read-name-end c = search needs
-
-read-name-requires : tie.Need-read-name-requires
-read-name-requires c κs = search needs
-
-enum-known-number : tie.Need-enum-known-number
-enum-known-number c = search needs
-
-enum-told-2 : tie.Need-enum-told-2
-enum-told-2 c = search needs
 
 returns-2 : tie.Need-returns-2
 unfolding lineOf
@@ -92,33 +71,12 @@ sub-read-fields c = in2 (c .before)
 part-read-fields-start : tie.Need-part-read-fields-start
 part-read-fields-start c = in2 (c .before)
 
-part-read-fields-end : tie.Need-part-read-fields-end
-part-read-fields-end c = search needs
-
-read-fields-requires : tie.Need-read-fields-requires
-read-fields-requires c κs = search needs
-
-enum-known-a : tie.Need-enum-known-a
-enum-known-a c = search needs
-
-enum-told-3 : tie.Need-enum-told-3
-enum-told-3 c = search needs
-
 returns-3 : tie.Need-returns-3
 unfolding lineOf
 returns-3 c =
     let e = c .before .before .before .before .before in
     let w = c .before .before .before .before .before .before .before .before .before .before .before .before .before .before .args in
     simp (e1 (c .before .before .before .before .before .before .before .before .before .before)) (simp (e2 e) (simp (got (part-of (fieldsOf (w .wide) (e .number .given .0 .1 .0)) (w .s .now) (2 + e .number .given .0 .1 .1 .0) (c .before .before .read-fields .ensures)) (c .enum-told3 .given .1))))
-
-call-of-requires : tie.Need-call-of-requires
-call-of-requires c κs = search needs
-
-enum-known-call : tie.Need-enum-known-call
-enum-known-call c = search needs
-
-enum-told-4 : tie.Need-enum-told-4
-enum-told-4 c = search needs
 
 returns-4 : tie.Need-returns-4
 returns-4 c =
@@ -148,28 +106,28 @@ pub read-line-spec : {M : Type 1} → statement M
 read-line-spec =
     tie.close
     (tie.spec
-    read-letter-requires
-    enum-known-context
-    enum-told
+    (λ c κs. search needs)
+    (λ c. search needs)
+    (λ c. search needs)
     returns
     sub-read-name
     part-read-name-start
-    part-read-name-end
-    read-name-requires
-    enum-known-number
-    enum-told-2
+    (λ c. search needs)
+    (λ c κs. search needs)
+    (λ c. search needs)
+    (λ c. search needs)
     returns-2
     add-at
     sub-read-fields
     part-read-fields-start
-    part-read-fields-end
-    read-fields-requires
-    enum-known-a
-    enum-told-3
+    (λ c. search needs)
+    (λ c κs. search needs)
+    (λ c. search needs)
+    (λ c. search needs)
     returns-3
-    call-of-requires
-    enum-known-call
-    enum-told-4
+    (λ c κs. search needs)
+    (λ c. search needs)
+    (λ c. search needs)
     returns-4
     add-t17
     returns-5)

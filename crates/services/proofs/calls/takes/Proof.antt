@@ -6,9 +6,6 @@ use Rattle.services.proofs.Table.{takes-at, past-kinds}
 use Rattle.services.proofs.calls.takes.Statement.{statement}
 use Rattle.services.proofs.calls.takes.Tie as tie
 
-array-read-result : tie.Need-array-read-result
-array-read-result c = search needs
-
 returns : tie.Need-returns
 returns c = takes-at (c .before .args .number) (c .if1 .taken)
 
@@ -17,4 +14,4 @@ unfolding takes
 returns-2 c = rw (past-kinds _ (c .if1 .left))
 
 pub takes-spec : {M : Type 1} → statement M
-takes-spec = tie.close (tie.spec array-read-result returns returns-2)
+takes-spec = tie.close (tie.spec (λ c. search needs) returns returns-2)

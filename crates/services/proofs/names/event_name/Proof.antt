@@ -8,78 +8,9 @@ use borrow.Author.Needs.{needs}
 use Rattle.services.proofs.names.event_name.Statement.{statement}
 use Rattle.services.proofs.names.event_name.Tie as tie
 
-byte-at-requires : tie.Need-byte-at-requires
-byte-at-requires c κs = search needs
-
-cast-key : tie.Need-cast-key
-cast-key c = search needs
-
-byte-at-requires-2 : tie.Need-byte-at-requires-2
-byte-at-requires-2 c κs = search needs
-
-cast-key-2 : tie.Need-cast-key-2
-cast-key-2 c = search needs
-
-add-key : tie.Need-add-key
-add-key c = search needs
-
-slice-aggregate-labelled : tie.Need-slice-aggregate-labelled
-slice-aggregate-labelled c = search needs
-
-labelled-requires : tie.Need-labelled-requires
-labelled-requires c κs = search needs
-
-slice-aggregate-labelled-2 : tie.Need-slice-aggregate-labelled-2
-slice-aggregate-labelled-2 c = search needs
-
-labelled-requires-2 : tie.Need-labelled-requires-2
-labelled-requires-2 c κs = search needs
-
-slice-aggregate-labelled-3 : tie.Need-slice-aggregate-labelled-3
-slice-aggregate-labelled-3 c = search needs
-
-labelled-requires-3 : tie.Need-labelled-requires-3
-labelled-requires-3 c κs = search needs
-
-slice-aggregate-labelled-4 : tie.Need-slice-aggregate-labelled-4
-slice-aggregate-labelled-4 c = search needs
-
-labelled-requires-4 : tie.Need-labelled-requires-4
-labelled-requires-4 c κs = search needs
-
-slice-aggregate-labelled-5 : tie.Need-slice-aggregate-labelled-5
-slice-aggregate-labelled-5 c = search needs
-
-labelled-requires-5 : tie.Need-labelled-requires-5
-labelled-requires-5 c κs = search needs
-
-slice-aggregate-labelled-6 : tie.Need-slice-aggregate-labelled-6
-slice-aggregate-labelled-6 c = search needs
-
-labelled-requires-6 : tie.Need-labelled-requires-6
-labelled-requires-6 c κs = search needs
-
-slice-aggregate-begins : tie.Need-slice-aggregate-begins
-slice-aggregate-begins c = search needs
-
-begins-requires : tie.Need-begins-requires
-begins-requires c κs = search needs
-
 returns : tie.Need-returns
 unfolding keyed events label
 returns c = at-event (c .before .before .before .before .before .before .before .args .s .now) (c .before .before .before .before .before .byte-at .ensures) (c .before .before .before .before .byte-at2 .ensures) (c .before .before .before .match .keys7) (rw (got (c .before .begins .ensures) (c .if1 .taken)))
-
-slice-aggregate-labelled-7 : tie.Need-slice-aggregate-labelled-7
-slice-aggregate-labelled-7 c = search needs
-
-labelled-requires-7 : tie.Need-labelled-requires-7
-labelled-requires-7 c κs = search needs
-
-slice-aggregate-labelled-8 : tie.Need-slice-aggregate-labelled-8
-slice-aggregate-labelled-8 c = search needs
-
-labelled-requires-8 : tie.Need-labelled-requires-8
-labelled-requires-8 c κs = search needs
 
 returns-2 : tie.Need-returns-2
 unfolding keyed events label labelled
@@ -120,30 +51,30 @@ pub event-name-spec : {M : Type 1} → statement M
 event-name-spec =
     tie.close
     (tie.spec
-    byte-at-requires
-    cast-key
-    byte-at-requires-2
-    cast-key-2
-    add-key
-    slice-aggregate-labelled
-    labelled-requires
-    slice-aggregate-labelled-2
-    labelled-requires-2
-    slice-aggregate-labelled-3
-    labelled-requires-3
-    slice-aggregate-labelled-4
-    labelled-requires-4
-    slice-aggregate-labelled-5
-    labelled-requires-5
-    slice-aggregate-labelled-6
-    labelled-requires-6
-    slice-aggregate-begins
-    begins-requires
+    (λ c κs. search needs)
+    (λ c. search needs)
+    (λ c κs. search needs)
+    (λ c. search needs)
+    (λ c. search needs)
+    (λ c. search needs)
+    (λ c κs. search needs)
+    (λ c. search needs)
+    (λ c κs. search needs)
+    (λ c. search needs)
+    (λ c κs. search needs)
+    (λ c. search needs)
+    (λ c κs. search needs)
+    (λ c. search needs)
+    (λ c κs. search needs)
+    (λ c. search needs)
+    (λ c κs. search needs)
+    (λ c. search needs)
+    (λ c κs. search needs)
     returns
-    slice-aggregate-labelled-7
-    labelled-requires-7
-    slice-aggregate-labelled-8
-    labelled-requires-8
+    (λ c. search needs)
+    (λ c κs. search needs)
+    (λ c. search needs)
+    (λ c κs. search needs)
     returns-2
     returns-3
     returns-4

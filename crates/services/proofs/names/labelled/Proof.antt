@@ -6,9 +6,6 @@ use borrow.Author.Needs.{needs}
 use Rattle.services.proofs.names.labelled.Statement.{statement}
 use Rattle.services.proofs.names.labelled.Tie as tie
 
-begins-requires : tie.Need-begins-requires
-begins-requires c κs = search needs
-
 returns : tie.Need-returns
 unfolding labelled
 returns c = rw (got (c .before .begins .ensures) (c .if1 .taken))
@@ -18,4 +15,4 @@ unfolding labelled
 returns-2 c = rw (got (c .before .begins .ensures) (c .if1 .left))
 
 pub labelled-spec : {M : Type 1} → statement M
-labelled-spec = tie.close (tie.spec begins-requires returns returns-2)
+labelled-spec = tie.close (tie.spec (λ c κs. search needs) returns returns-2)

@@ -7,30 +7,6 @@ use borrow.Author.Needs.{needs}
 use Rattle.services.proofs.names.read_name.Statement.{statement}
 use Rattle.services.proofs.names.read_name.Tie as tie
 
-byte-at-requires : tie.Need-byte-at-requires
-byte-at-requires c κs = search needs
-
-task-name-requires : tie.Need-task-name-requires
-task-name-requires c κs = search needs
-
-slice-aggregate-labelled : tie.Need-slice-aggregate-labelled
-slice-aggregate-labelled c = search needs
-
-labelled-requires : tie.Need-labelled-requires
-labelled-requires c κs = search needs
-
-slice-aggregate-labelled-2 : tie.Need-slice-aggregate-labelled-2
-slice-aggregate-labelled-2 c = search needs
-
-labelled-requires-2 : tie.Need-labelled-requires-2
-labelled-requires-2 c κs = search needs
-
-semaphore-name-requires : tie.Need-semaphore-name-requires
-semaphore-name-requires c κs = search needs
-
-event-name-requires : tie.Need-event-name-requires
-event-name-requires c κs = search needs
-
 returns : tie.Need-returns
 unfolding keyed nameIn services tasks system semaphores events label
 returns c = at-family (c .before .before .before .before .args .s .now) (c .before .before .byte-at .ensures) (c .before .match .keys1) (c .task-name .ensures)
@@ -58,14 +34,14 @@ pub read-name-spec : {M : Type 1} → statement M
 read-name-spec =
     tie.close
     (tie.spec
-    byte-at-requires
-    task-name-requires
-    slice-aggregate-labelled
-    labelled-requires
-    slice-aggregate-labelled-2
-    labelled-requires-2
-    semaphore-name-requires
-    event-name-requires
+    (λ c κs. search needs)
+    (λ c κs. search needs)
+    (λ c. search needs)
+    (λ c κs. search needs)
+    (λ c. search needs)
+    (λ c κs. search needs)
+    (λ c κs. search needs)
+    (λ c κs. search needs)
     returns
     returns-2
     returns-3

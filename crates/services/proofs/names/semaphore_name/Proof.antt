@@ -7,51 +7,6 @@ use borrow.Author.Needs.{needs}
 use Rattle.services.proofs.names.semaphore_name.Statement.{statement}
 use Rattle.services.proofs.names.semaphore_name.Tie as tie
 
-byte-at-requires : tie.Need-byte-at-requires
-byte-at-requires c κs = search needs
-
-slice-aggregate-labelled : tie.Need-slice-aggregate-labelled
-slice-aggregate-labelled c = search needs
-
-labelled-requires : tie.Need-labelled-requires
-labelled-requires c κs = search needs
-
-slice-aggregate-labelled-2 : tie.Need-slice-aggregate-labelled-2
-slice-aggregate-labelled-2 c = search needs
-
-labelled-requires-2 : tie.Need-labelled-requires-2
-labelled-requires-2 c κs = search needs
-
-slice-aggregate-labelled-3 : tie.Need-slice-aggregate-labelled-3
-slice-aggregate-labelled-3 c = search needs
-
-labelled-requires-3 : tie.Need-labelled-requires-3
-labelled-requires-3 c κs = search needs
-
-slice-aggregate-labelled-4 : tie.Need-slice-aggregate-labelled-4
-slice-aggregate-labelled-4 c = search needs
-
-labelled-requires-4 : tie.Need-labelled-requires-4
-labelled-requires-4 c κs = search needs
-
-slice-aggregate-labelled-5 : tie.Need-slice-aggregate-labelled-5
-slice-aggregate-labelled-5 c = search needs
-
-labelled-requires-5 : tie.Need-labelled-requires-5
-labelled-requires-5 c κs = search needs
-
-slice-aggregate-labelled-6 : tie.Need-slice-aggregate-labelled-6
-slice-aggregate-labelled-6 c = search needs
-
-labelled-requires-6 : tie.Need-labelled-requires-6
-labelled-requires-6 c κs = search needs
-
-slice-aggregate-labelled-7 : tie.Need-slice-aggregate-labelled-7
-slice-aggregate-labelled-7 c = search needs
-
-labelled-requires-7 : tie.Need-labelled-requires-7
-labelled-requires-7 c κs = search needs
-
 returns : tie.Need-returns
 unfolding keyed semaphores label labelled
 returns c = at-semaphore (c .before .before .before .before .before .args .s .now) (c .before .before .before .byte-at .ensures) (c .before .before .match .keys1) (c .labelled .ensures)
@@ -87,21 +42,21 @@ pub semaphore-name-spec : {M : Type 1} → statement M
 semaphore-name-spec =
     tie.close
     (tie.spec
-    byte-at-requires
-    slice-aggregate-labelled
-    labelled-requires
-    slice-aggregate-labelled-2
-    labelled-requires-2
-    slice-aggregate-labelled-3
-    labelled-requires-3
-    slice-aggregate-labelled-4
-    labelled-requires-4
-    slice-aggregate-labelled-5
-    labelled-requires-5
-    slice-aggregate-labelled-6
-    labelled-requires-6
-    slice-aggregate-labelled-7
-    labelled-requires-7
+    (λ c κs. search needs)
+    (λ c. search needs)
+    (λ c κs. search needs)
+    (λ c. search needs)
+    (λ c κs. search needs)
+    (λ c. search needs)
+    (λ c κs. search needs)
+    (λ c. search needs)
+    (λ c κs. search needs)
+    (λ c. search needs)
+    (λ c κs. search needs)
+    (λ c. search needs)
+    (λ c κs. search needs)
+    (λ c. search needs)
+    (λ c κs. search needs)
     returns
     returns-2
     returns-3
