@@ -1,4 +1,4 @@
--- `text::decimals::put_number` meets its contract. The invariant: with the digits of what is left stored, the buffer is as it shall be; k is the place after them.
+-- `text::decimals::put_decimal` meets its contract. The invariant: with the digits of what is left stored, the buffer is as it shall be; k is the place after them.
 -- It rests on the laws of stores and of a number's digits.
 use Prim.Native.Nat.{ℕ, _+_, _≤_, _-_, _/_, _%_}
 use mathlib.Core.Path.{_≡_, refl, ap, sym, _∙_}
@@ -11,8 +11,8 @@ use Rattle.text.specs.Decimal.{decimal}
 use Rattle.text.proofs.Digits.{decimal-one, decimal-step, width-one, width-step}
 use Rattle.text.proofs.Stores.{set-then, room, put-room, after-room, put-none, after-none}
 use borrow.Author.Needs.{needs}
-use Rattle.text.proofs.decimals.put_number.Statement.{statement}
-use Rattle.text.proofs.decimals.put_number.Tie as tie
+use Rattle.text.proofs.decimals.put_decimal.Statement.{statement}
+use Rattle.text.proofs.decimals.put_decimal.Tie as tie
 
 abbrev Inv-loop : tie.InvT-loop
 Inv-loop buf₀ at n digits end k₀ rest₀ buf k rest =
@@ -105,8 +105,8 @@ returns-2 c =
           ∙ sym (put-room (a .buf .now) (a .at) (decimal (a .n)) h),
     )
 
-pub put-number-spec : {M : Type 1} → statement M
-put-number-spec =
+pub put-decimal-spec : {M : Type 1} → statement M
+put-decimal-spec =
     tie.close
     (tie.spec
     Inv-loop
