@@ -12,8 +12,8 @@ use Rattle.text.specs.declared.number.Number.the-variants.{Digits, NoNumber}
 use Rattle.text.specs.Bytes.{bytes, begins}
 use Rattle.text.proofs.Reading.{cond-by}
 use Rattle.model.specs.declared.Context.{Context}
-use Rattle.lines.specs.declared.names.Name.{Name}
-use Rattle.lines.specs.declared.names.Name.the-variants.{Known, Unknown}
+use Rattle.services.specs.declared.names.Name.{Name}
+use Rattle.services.specs.declared.names.Name.the-variants.{Known, Unknown}
 use Rattle.lines.specs.declared.fields.End.{End}
 use Rattle.lines.specs.declared.fields.End.the-variants.{Closes, NoEnd}
 use Rattle.lines.specs.declared.fields.Tail.{Tail}
@@ -26,7 +26,8 @@ use Rattle.lines.specs.declared.line.Line.{Line}
 use Rattle.lines.specs.declared.line.Line.the-variants.{Reads, Unreadable}
 use Rattle.lines.specs.declared.line.Header.{Header}
 use Rattle.lines.specs.declared.line.Header.the-variants.{Ends, NoHeader}
-use Rattle.lines.specs.Services.{callOf, nameOf}
+use Rattle.model.specs.Services.{service}
+use Rattle.services.specs.Names.{nameOf}
 use Rattle.lines.specs.Fields.{fieldOf, numberThen, commaField, endOf, endThen, lastField, tailField, narrowTail, wideTail, tailOf, fieldThen, tailThen, fieldsOf}
 use Rattle.lines.specs.Lines.{letterOf, letterThen, nameThen, fieldsThen, lineOf, headerThen, headed, headerOf}
 use Rattle.lines.proofs.Long.{extra, NameHas, name-has, NumberHas, comma-has}
@@ -125,17 +126,17 @@ pub line-ends : (wide : Bool) (s : List ℕ) → LineEnds wide (lineOf wide s) (
 unfolding lineOf
 line-ends wide s = first (letterOf s)
   where
-    third : (x : Context) (k i : ℕ) → 15 ≤ i → (t : Fields) → FieldsEnd wide t (length (drop i s)) → LineEnds wide (fieldsThen t (λ a b c d m. Reads x (callOf k a b c d) (i + m))) (length s)
+    third : (x : Context) (k i : ℕ) → 15 ≤ i → (t : Fields) → FieldsEnd wide t (length (drop i s)) → LineEnds wide (fieldsThen t (λ a b c d m. Reads x (service k .call a b c d) (i + m))) (length s)
     third x k i h (Four a b c d m) g = after s i m (18 + extra wide) (3 + extra wide) g (omega arith)
     third x k i h NoFields g = tt
 
     second : (x : Context) (t : Name) → NameHas t
-        → LineEnds wide (nameThen t (λ k takes n. fieldsThen (fieldsOf wide takes (drop (2 + n) s)) (λ a b c d m. Reads x (callOf k a b c d) (2 + n + m)))) (length s)
+        → LineEnds wide (nameThen t (λ k takes n. fieldsThen (fieldsOf wide takes (drop (2 + n) s)) (λ a b c d m. Reads x (service k .call a b c d) (2 + n + m)))) (length s)
     second x (Known k takes n) g = third x k (2 + n) (omega arith) (fieldsOf wide takes (drop (2 + n) s)) (fields-end wide takes (drop (2 + n) s))
     second x Unknown g = tt
 
     first : (t : Letter)
-        → LineEnds wide (letterThen t (λ x. nameThen (nameOf (drop 2 s)) (λ k takes n. fieldsThen (fieldsOf wide takes (drop (2 + n) s)) (λ a b c d m. Reads x (callOf k a b c d) (2 + n + m))))) (length s)
+        → LineEnds wide (letterThen t (λ x. nameThen (nameOf (drop 2 s)) (λ k takes n. fieldsThen (fieldsOf wide takes (drop (2 + n) s)) (λ a b c d m. Reads x (service k .call a b c d) (2 + n + m))))) (length s)
     first (Is x) = second x (nameOf (drop 2 s)) (name-has (drop 2 s))
     first NoLetter = tt
 

@@ -9,7 +9,7 @@ use Rattle.text.specs.Decimal.{decimal, decimalIn}
 use Rattle.model.specs.declared.State.{State}
 use Rattle.model.specs.declared.Context.{Context}
 use Rattle.model.specs.declared.Call.{Call}
-use Rattle.model.specs.Row.{bestFrom}
+use Rattle.model.specs.Row.{row, bestFrom}
 use Rattle.model.specs.State.{fresh, running}
 use Rattle.model.specs.Code.{number}
 use Rattle.model.specs.Call.{step, call}
@@ -66,7 +66,7 @@ rows-most (fault l) s n k = omega arith
 rows-most (next x c p) s n k = most-next s x c p k 0 n (omega (arith, step-code s x c, step-runs s x c k)) (rows-most p (step s x c .state) (n + 1) (sound-stays-sound s x c k))
 
 nobody-runs : running fresh ≡ 0
-unfolding running bestFrom
+unfolding running bestFrom row
 nobody-runs = refl
 
 pub all-most : (p : Script) → Most 1 1 (rowsOf p)

@@ -43,7 +43,7 @@ fn put_queue(flat: &mut [u8], l: u8, q: Queue)
 }
 
 // Row l as it stands, with zeros for what is past the table.
-pub fn queue_at(flat: &[u8], l: u8) -> Queue
+pub(crate) fn queue_at(flat: &[u8], l: u8) -> Queue
     ensures { λ r. ⌜ r ≡ asQueue (places 24 (l * 24) (now (flat .entry))) ⌝ }
 {
     let a = (l as usize) * 24;
