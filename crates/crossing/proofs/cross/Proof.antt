@@ -26,8 +26,8 @@ shared-slice-read-t c = search needs
 cast-t : tie.Need-cast-t Inv-loop μ-loop
 cast-t c = omega (arith, c .shared-slice-known2 .given (c .before .before .loop .i))
 
-zeros-from-requires : tie.Need-zeros-from-requires Inv-loop μ-loop
-zeros-from-requires c κs = search needs
+rest-is-free-requires : tie.Need-rest-is-free-requires Inv-loop μ-loop
+rest-is-free-requires c κs = search needs
 
 same-length : tie.Need-same-length Inv-loop μ-loop
 same-length c = search needs
@@ -37,7 +37,7 @@ returns c =
     let l = c .before .before .before .before .loop in
     let a = c .before .before .before .before .before .before .before .args in
     let s = crosses-ends (a .l) (l .wants) (a .q .now) (l .i) (c .before .before .before .loop-test .taken) (c .before .if1 .taken) in
-    (c .zeros-from .ensures ∙ sym (l .inv .1 ∙ s .0), sym (l .inv .2 ∙ s .1))
+    (c .rest-is-free .ensures ∙ sym (l .inv .1 ∙ s .0), sym (l .inv .2 ∙ s .1))
 
 same-length-2 : tie.Need-same-length-2 Inv-loop μ-loop
 same-length-2 c = search needs
@@ -100,7 +100,7 @@ cross-spec =
     loop-holds
     shared-slice-read-t
     cast-t
-    zeros-from-requires
+    rest-is-free-requires
     same-length
     returns
     same-length-2

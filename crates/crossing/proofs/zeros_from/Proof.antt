@@ -32,10 +32,10 @@ loop-less c = omega arith
 loop-again : tie.Need-loop-again Inv-loop μ-loop
 loop-again c =
     let l = c .before .before .loop in
-    zeros-on _ (l .i) (l .clear) _ (c .before .loop-test .taken) (l .inv)
+    zeros-on (c .before .before .before .args .q .now) (l .i) (l .clear) _ (omega arith) (l .inv)
 
 returns : tie.Need-returns Inv-loop μ-loop
-returns c = let l = c .before .loop in zeros-end _ (l .i) (l .clear) _ (c .loop-test .left) (l .inv)
+returns c = let l = c .before .loop in zeros-end (c .before .before .args .q .now) (l .i) (l .clear) _ (omega arith) (l .inv)
 
 pub zeros-from-spec : {M : Type 1} → statement M
 zeros-from-spec =
