@@ -40,7 +40,11 @@ loop-less : tie.Need-loop-less Inv-loop μ-loop
 loop-less c = omega arith
 
 loop-again : tie.Need-loop-again Inv-loop μ-loop
-loop-again c = let l = c .before .before .before .before .before .loop in (omega arith, below-on _ (l .m) (c .count-sound .result) (l .sound) (c .count-sound .ensures ∙ rw (c .before .before .before .count-at .ensures, c .before .before .maximum-at .ensures, c .before .first-waiter .ensures)) (l .inv .1))
+loop-again c =
+    let l = c .before .before .before .before .before .loop in (
+      omega arith,
+      below-on _ (l .m) (c .count-sound .result) (l .sound) (c .count-sound .ensures ∙ rw (c .before .before .before .count-at .ensures, c .before .before .maximum-at .ensures, c .before .first-waiter .ensures)) (l .inv .1),
+    )
 
 returns : tie.Need-returns Inv-loop μ-loop
 returns c = let l = c .before .loop in let e : l .m ≡ 13 = omega arith in rw e at (l .inv .1)

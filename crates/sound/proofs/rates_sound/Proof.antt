@@ -36,7 +36,11 @@ loop-less : tie.Need-loop-less Inv-loop μ-loop
 loop-less c = omega arith
 
 loop-again : tie.Need-loop-again Inv-loop μ-loop
-loop-again c = let l = c .before .before .before .before .loop in (omega arith, below-on _ (l .l) (c .rate-sound .result) (l .sound) (c .rate-sound .ensures ∙ rw (c .before .before .slice-at .ensures, c .before .charge-at .ensures)) (l .inv .1))
+loop-again c =
+    let l = c .before .before .before .before .loop in (
+      omega arith,
+      below-on _ (l .l) (c .rate-sound .result) (l .sound) (c .rate-sound .ensures ∙ rw (c .before .before .slice-at .ensures, c .before .charge-at .ensures)) (l .inv .1),
+    )
 
 returns : tie.Need-returns Inv-loop μ-loop
 returns c = let l = c .before .loop in let e : l .l ≡ 31 = omega arith in rw e at (l .inv .1)

@@ -34,7 +34,15 @@ is-ask-sound-requires c κs = search needs
 
 returns-2 : tie.Need-returns-2
 unfolding isTaskSound
-returns-2 c = simp and-assoc (rw (c .is-ask-sound .ensures, c .before .before .is-wait-sound .ensures, c .before .before .before .is-resting .ensures, c .before .before .before .before .is-wait-code .ensures, c .before .before .before .before .before .is-within2 .ensures, c .before .before .before .before .before .before .is-within .ensures, ne-eqb _ _ (c .before .before .before .before .before .before .before .if1 .left)))
+returns-2 c = simp and-assoc (rw (
+  c .is-ask-sound .ensures,
+  c .before .before .is-wait-sound .ensures,
+  c .before .before .before .is-resting .ensures,
+  c .before .before .before .before .is-wait-code .ensures,
+  c .before .before .before .before .before .is-within2 .ensures,
+  c .before .before .before .before .before .before .is-within .ensures,
+  ne-eqb _ _ (c .before .before .before .before .before .before .before .if1 .left),
+))
 
 pub task-sound-spec : {M : Type 1} → statement M
 task-sound-spec =
