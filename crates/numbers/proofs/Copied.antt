@@ -24,11 +24,11 @@ put-end ns xs z a i h e = rw (drop-of-length-le xs {i = i} h) at e
 pub put-start : (ns xs : List ℕ) (a : ℕ) → sets ns (a + 0) (drop 0 xs) ≡ sets ns a xs
 put-start ns xs a = rw (add-zero a)
 
--- the part is what was put there
-pub part-put : (ns xs : List ℕ) (a n : ℕ) → length xs ≡ n → a + n ≤ length ns → part a n (sets ns a xs) ≡ xs
+-- the part is what was put there; that it has room is computed
+pub part-put : (xs : List ℕ) (n : ℕ) → length xs ≡ n → (ns : List ℕ) (a : ℕ) → leb (a + n) (length ns) ≡ true → part a n (sets ns a xs) ≡ xs
 unfolding part
-part-put ns xs a n e h =
-    let l : a + length xs ≤ length ns = omega (arith, e) in
+part-put xs n e ns a h =
+    let l : a + length xs ≤ length ns = omega (arith, e, leb-true (a + n) (length ns) h) in
     let m : a ≤ length ns = omega arith in
     rw (sets-eq xs ns a l, append-assoc (take a ns) xs (drop (a + length xs) ns), drop-at (take a ns) (xs ++ drop (a + length xs) ns) a (length-take-le a ns m), take-at xs (drop (a + length xs) ns) n e)
 
@@ -85,57 +85,26 @@ pub spreads : (x : Numbers) (n₀ n₁ n₂ n₃ n₄ n₅ n₆ n₇ : List ℕ)
     → length n₀ ≡ 107 → (n₁ ≡ sets n₀ 0 (x .slices)) × (length (x .slices) ≡ 31) → (n₂ ≡ sets n₁ 31 (x .charges)) × (length (x .charges) ≡ 31) → (n₃ ≡ sets n₂ 62 (x .counts)) × (length (x .counts) ≡ 13) → (n₄ ≡ sets n₃ 75 (x .maxima)) × (length (x .maxima) ≡ 13) → (n₅ ≡ sets n₄ 88 (x .attributes)) × (length (x .attributes) ≡ 9) → (n₆ ≡ sets n₅ 97 (x .bits)) × (length (x .bits) ≡ 9)
     → n₇ ≡ stored 106 1 0 (x .time) n₆ → heldIn n₇ ≡ x
 spreads x n₀ n₁ n₂ n₃ n₄ n₅ n₆ n₇ h m₁ m₂ m₃ m₄ m₅ m₆ d₇ =
-    let d₁ = m₁ .0 in let a = m₁ .1 in let d₂ = m₂ .0 in let b = m₂ .1 in let d₃ = m₃ .0 in let c = m₃ .1 in
-    let d₄ = m₄ .0 in let d = m₄ .1 in let d₅ = m₅ .0 in let e = m₅ .1 in let d₆ = m₆ .0 in let f = m₆ .1 in
-    let h₁ : length n₁ ≡ 107 = ap length d₁ ∙ length-sets n₀ 0 (x .slices) ∙ h in
-    let h₂ : length n₂ ≡ 107 = ap length d₂ ∙ length-sets n₁ 31 (x .charges) ∙ h₁ in
-    let h₃ : length n₃ ≡ 107 = ap length d₃ ∙ length-sets n₂ 62 (x .counts) ∙ h₂ in
-    let h₄ : length n₄ ≡ 107 = ap length d₄ ∙ length-sets n₃ 75 (x .maxima) ∙ h₃ in
-    let h₅ : length n₅ ≡ 107 = ap length d₅ ∙ length-sets n₄ 88 (x .attributes) ∙ h₄ in
-    let h₆ : length n₆ ≡ 107 = ap length d₆ ∙ length-sets n₅ 97 (x .bits) ∙ h₅ in
-    let p₁ : part 0 31 n₁ ≡ x .slices = rw d₁ (part-put n₀ (x .slices) 0 31 a (omega (arith, h))) in
-    let p₂ : part 31 31 n₂ ≡ x .charges = rw d₂ (part-put n₁ (x .charges) 31 31 b (omega (arith, h₁))) in
-    let p₃ : part 62 13 n₃ ≡ x .counts = rw d₃ (part-put n₂ (x .counts) 62 13 c (omega (arith, h₂))) in
-    let p₄ : part 75 13 n₄ ≡ x .maxima = rw d₄ (part-put n₃ (x .maxima) 75 13 d (omega (arith, h₃))) in
-    let p₅ : part 88 9 n₅ ≡ x .attributes = rw d₅ (part-put n₄ (x .attributes) 88 9 e (omega (arith, h₄))) in
-    let p₆ : part 97 9 n₆ ≡ x .bits = rw d₆ (part-put n₅ (x .bits) 97 9 f (omega (arith, h₅))) in
-    let q₂ : (u k : ℕ) → apart 31 31 u k ≡ true → part u k n₂ ≡ part u k n₁ = λ u k g. rw d₂ (part-beside (x .charges) 31 b n₁ 31 u k g) in
-    let q₃ : (u k : ℕ) → apart 62 13 u k ≡ true → part u k n₃ ≡ part u k n₂ = λ u k g. rw d₃ (part-beside (x .counts) 13 c n₂ 62 u k g) in
-    let q₄ : (u k : ℕ) → apart 75 13 u k ≡ true → part u k n₄ ≡ part u k n₃ = λ u k g. rw d₄ (part-beside (x .maxima) 13 d n₃ 75 u k g) in
-    let q₅ : (u k : ℕ) → apart 88 9 u k ≡ true → part u k n₅ ≡ part u k n₄ = λ u k g. rw d₅ (part-beside (x .attributes) 9 e n₄ 88 u k g) in
-    let q₆ : (u k : ℕ) → apart 97 9 u k ≡ true → part u k n₆ ≡ part u k n₅ = λ u k g. rw d₆ (part-beside (x .bits) 9 f n₅ 97 u k g) in
-    let q₇ : (u k : ℕ) → apart 106 1 u k ≡ true → part u k n₇ ≡ part u k n₆ = λ u k g. rw d₇ (part-other 106 1 u k 0 (x .time) n₆ g) in
-    let t : getD (part 106 1 n₇) 0 0 ≡ x .time = rw (d₇, part-same 106 1 0 (x .time) n₆) (getD-set-same (part 106 1 n₆) 0 (x .time) 0 (omega (arith, part-long 106 1 n₆ (omega (arith, h₆))))) in
-    rw (
-      q₇ 0 31 refl,
-      q₆ 0 31 refl,
-      q₅ 0 31 refl,
-      q₄ 0 31 refl,
-      q₃ 0 31 refl,
-      q₂ 0 31 refl,
-      p₁,
-      q₇ 31 31 refl,
-      q₆ 31 31 refl,
-      q₅ 31 31 refl,
-      q₄ 31 31 refl,
-      q₃ 31 31 refl,
-      p₂,
-      q₇ 62 13 refl,
-      q₆ 62 13 refl,
-      q₅ 62 13 refl,
-      q₄ 62 13 refl,
-      p₃,
-      q₇ 75 13 refl,
-      q₆ 75 13 refl,
-      q₅ 75 13 refl,
-      p₄,
-      q₇ 88 9 refl,
-      q₆ 88 9 refl,
-      p₅,
-      q₇ 97 9 refl,
-      p₆,
-      t,
-    )
+    let room : 0 < length (part 106 1 n₀) = omega (arith, part-long 106 1 n₀ (omega arith)) in
+    rw (d₇, m₆ .0, m₅ .0, m₄ .0, m₃ .0, m₂ .0, m₁ .0) (simp (
+      part-same,
+      part-other,
+      part-beside (x .slices) 31 (m₁ .1),
+      part-beside (x .charges) 31 (m₂ .1),
+      part-beside (x .counts) 13 (m₃ .1),
+      part-beside (x .maxima) 13 (m₄ .1),
+      part-beside (x .attributes) 9 (m₅ .1),
+      part-beside (x .bits) 9 (m₆ .1),
+      part-put (x .slices) 31 (m₁ .1),
+      part-put (x .charges) 31 (m₂ .1),
+      part-put (x .counts) 13 (m₃ .1),
+      part-put (x .maxima) 13 (m₄ .1),
+      part-put (x .attributes) 9 (m₅ .1),
+      part-put (x .bits) 9 (m₆ .1),
+      length-sets,
+      h,
+      getD-set-same,
+    ))
 
 pub gathers : (n : List ℕ) (a b c d e f : List ℕ) (g : ℕ) → length n ≡ 107 → a ≡ places 31 0 n → b ≡ places 31 31 n → c ≡ places 13 62 n → d ≡ places 13 75 n → e ≡ places 9 88 n → f ≡ places 9 97 n → g ≡ getD (part 106 1 n) 0 0
     → record { slices = a; charges = b; counts = c; maxima = d; attributes = e; bits = f; time = g } ≡ heldIn n
