@@ -10,9 +10,9 @@ use lib.Dec.{leb}
 use lib.ListN.{getD, set, length, take, drop, length-take, length-set, drop-of-length-le}
 use lib.Seq.{take-suc, take-suc-set, take-all, drop-cons, sets, sets-eq, take-at, drop-at, take-length, length-take-le, take-set-le, drop-set-lt, drop-set-add, length-sets, getD-set-same}
 use borrow.Author.Tests.{leb-true}
-use Rattle.numbers.specs.Numbers.{part, stored, apart, places, heldIn}
+use Rattle.numbers.specs.Numbers.{part, stored, apart, heldIn}
 use Rattle.model.specs.declared.Numbers.{Numbers}
-use Rattle.numbers.proofs.Laws.{part-same, part-other, part-long}
+use Rattle.numbers.proofs.Laws.{part-at, part-same, part-other, part-long}
 
 -- ---- into the table
 pub put-on : (ns xs z : List ℕ) (a i : ℕ) → i < length xs → sets ns (a + i) (drop i xs) ≡ z → sets (set ns (a + i) (getD xs i 0)) (a + (i + 1)) (drop (i + 1) xs) ≡ z
@@ -55,30 +55,14 @@ part-beside xs n e ns a b k h = go (leb (a + n) b) refl h
     go false f g = below xs ns a b k (leb-true (b + k) a g)
 
 -- ---- out of it
-pub length-places : (n a : ℕ) (ls : List ℕ) → length (places n a ls) ≡ n
-unfolding places
-length-places zero a ls = refl
-length-places (suc n) a ls = ap suc (length-places n (suc a) ls)
-
-pub places-at : (n a i : ℕ) (ls : List ℕ) → i < n → getD (places n a ls) i 0 ≡ getD ls (a + i) 0
-unfolding places
-places-at zero a i ls h = absurd (omega arith)
-places-at (suc n) a zero ls h = rw (add-zero a)
-places-at (suc n) a (suc i) ls h = places-at n (suc a) i ls (omega arith) ∙ ap (λ (k : ℕ). getD ls k 0) (omega arith)
-
 -- one place more is copied
-pub copy-on : (r ls : List ℕ) (n a i v : ℕ) → length r ≡ n → i < length r → v ≡ getD ls (a + i) 0 → take i r ≡ take i (places n a ls) → take (i + 1) (set r i v) ≡ take (i + 1) (places n a ls)
-copy-on r ls n a i v e h f g =
-    rw (add-one i, take-suc-set r i v h, take-suc (places n a ls) i 0 (omega (arith, length-places n a ls)), places-at n a i ls (omega arith), f, g)
+pub copy-on : (r ns : List ℕ) (n a i : ℕ) → length r ≡ n → a + n ≤ length ns → i < n → take i r ≡ take i (part a n ns)
+    → take (i + 1) (set r i (getD ns (a + i) 0)) ≡ take (i + 1) (part a n ns)
+copy-on r ns n a i e m h g =
+    rw (add-one i, take-suc-set r i (getD ns (a + i) 0) (omega arith), take-suc (part a n ns) i 0 (omega (arith, part-long a n ns m)), part-at a n i ns h, g)
 
-pub copy-end : (r ls : List ℕ) (n a i : ℕ) → length r ≡ n → length r ≤ i → take i r ≡ take i (places n a ls) → r ≡ places n a ls
-copy-end r ls n a i e h g = sym (take-all i r h) ∙ g ∙ take-all i (places n a ls) (omega (arith, length-places n a ls))
-
--- within the table it is the part
-pub places-part : (n a : ℕ) (ls : List ℕ) → a + n ≤ length ls → places n a ls ≡ part a n ls
-unfolding places part
-places-part zero a ls h = refl
-places-part (suc n) a ls h = ap (λ (r : List ℕ). getD ls a 0 ∷ r) (places-part n (suc a) ls (omega arith)) ∙ rw (drop-cons ls a 0 (omega arith))
+pub copy-end : (r ns : List ℕ) (n a i : ℕ) → length r ≡ n → a + n ≤ length ns → n ≤ i → take i r ≡ take i (part a n ns) → r ≡ part a n ns
+copy-end r ns n a i e m h g = sym (take-all i r (omega arith)) ∙ g ∙ take-all i (part a n ns) (omega (arith, part-long a n ns m))
 
 -- ---- all of them
 pub spreads : (x : Numbers) (n₀ n₁ n₂ n₃ n₄ n₅ n₆ n₇ : List ℕ)
@@ -105,8 +89,3 @@ spreads x n₀ n₁ n₂ n₃ n₄ n₅ n₆ n₇ h m₁ m₂ m₃ m₄ m₅ m�
       h,
       getD-set-same,
     ))
-
-pub gathers : (n : List ℕ) (a b c d e f : List ℕ) (g : ℕ) → length n ≡ 107 → a ≡ places 31 0 n → b ≡ places 31 31 n → c ≡ places 13 62 n → d ≡ places 13 75 n → e ≡ places 9 88 n → f ≡ places 9 97 n → g ≡ getD (part 106 1 n) 0 0
-    → record { slices = a; charges = b; counts = c; maxima = d; attributes = e; bits = f; time = g } ≡ heldIn n
-gathers n a b c d e f g h p q r s t u v =
-    rw (p, q, r, s, t, u, v, places-part 31 0 n (omega arith), places-part 31 31 n (omega arith), places-part 13 62 n (omega arith), places-part 13 75 n (omega arith), places-part 9 88 n (omega arith), places-part 9 97 n (omega arith))

@@ -1,3 +1,5 @@
+-- `numbers::spread` meets its contract: part by part.
+-- Rests on Copied.
 use Rattle.numbers.proofs.Copied as law
 use borrow.Author.Needs.{needs}
 use Rattle.numbers.proofs.spread.Statement.{statement}
@@ -25,7 +27,17 @@ put-number-requires : tie.Need-put-number-requires
 put-number-requires c κs = search needs
 
 returns : tie.Need-returns
-returns c = let a = c .before .before .before .before .before .before .before .before .before .before .before .before .before .before .before .before .before .before .before .before .before .before .before .before .before .before .before .before .before .before .before .before .args in law.spreads (a .x) _ _ _ _ _ _ _ _ (search (needs, c .before .before .before .before .before .before .before .before .before .before .before .before .before .before .before .before .before .before .before .before .before .before .before .before .before .before .before .before .before .before .before .n .given)) (c .before .before .before .before .before .before .before .before .before .before .before .before .before .before .before .before .before .before .before .before .before .before .before .put31 .ensures) (c .before .before .before .before .before .before .before .before .before .before .before .before .before .before .before .before .before .before .before .put312 .ensures) (c .before .before .before .before .before .before .before .before .before .before .before .before .before .before .before .put13 .ensures) (c .before .before .before .before .before .before .before .before .before .before .before .put132 .ensures) (c .before .before .before .before .before .before .before .put9 .ensures) (c .before .before .before .put92 .ensures) (c .put-number .ensures)
+returns c =
+    let a = c .before .before .before .before .before .before .before .before .before .before .before .before .before .before .before .before .before .before .before .before .before .before .before .before .before .before .before .before .before .before .before .before .args in
+    law.spreads (a .x) _ _ _ _ _ _ _ _
+    (search (needs, c .before .before .before .before .before .before .before .before .before .before .before .before .before .before .before .before .before .before .before .before .before .before .before .before .before .before .before .before .before .before .before .n .given))
+    (c .before .before .before .before .before .before .before .before .before .before .before .before .before .before .before .before .before .before .before .before .before .before .before .put31 .ensures)
+    (c .before .before .before .before .before .before .before .before .before .before .before .before .before .before .before .before .before .before .before .put312 .ensures)
+    (c .before .before .before .before .before .before .before .before .before .before .before .before .before .before .before .put13 .ensures)
+    (c .before .before .before .before .before .before .before .before .before .before .before .put132 .ensures)
+    (c .before .before .before .before .before .before .before .put9 .ensures)
+    (c .before .before .before .put92 .ensures)
+    (c .put-number .ensures)
 
 pub spread-spec : {M : Type 1} → statement M
 spread-spec =
