@@ -1,7 +1,7 @@
 -- What a service reads off the checks that every call has in common, and off a range: the plan so far, the tests, the range's top.
 -- It rests on the definitions of `gate` and `within` alone.
 use mathlib.Core.Bool.{Bool, true, false, cond, _&&_}
-use mathlib.Core.Path.{_≡_}
+use mathlib.Core.Path.{_≡_, sym, _∙_}
 use Prim.Native.Nat.{ℕ, _≤_}
 use lib.Dec.{leb}
 use borrow.Author.Tests.{leb-true}
@@ -41,6 +41,7 @@ pub and-right : (a b : Bool) → a && b ≡ true → b ≡ true
 and-right false b h = cc
 and-right true b h = h
 
-pub within-top : (low n top : ℕ) → within low n top ≡ true → n ≤ top
+-- r is what a function answered for the range
+pub within-top : (low n top : ℕ) {r : Bool} → r ≡ within low n top → r ≡ true → n ≤ top
 unfolding within
-within-top low n top h = leb-true n top (and-right (leb low n) (leb n top) h)
+within-top low n top e h = leb-true n top (and-right (leb low n) (leb n top) (sym e ∙ h))

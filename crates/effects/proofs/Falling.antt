@@ -15,26 +15,26 @@ use Rattle.model.specs.declared.Task.{Task}
 use Rattle.model.specs.declared.State.{State}
 use Rattle.model.specs.Row.{relisted}
 use Rattle.model.specs.Task.{noTask, levelOf, rowOf, aged, ended, ranOut, withRemaining, endless}
-use Rattle.model.specs.State.{moved}
+use Rattle.model.specs.State.{moved, movedFrom}
 use Rattle.model.specs.Effect.{lapsed}
 use Rattle.laws.proofs.Number.{same?}
 use Rattle.stored.specs.Stored.{tasksOf}
 use Rattle.stored.proofs.Laws.{left-at, fell}
-use Rattle.effects.specs.Lent.{stateIn, movedFrom}
+use Rattle.tables.specs.Lent.{stateIn}
 use Rattle.effects.specs.Falling.{fallen, isDue, fallAll}
 use Rattle.effects.proofs.Moving.{untimed, unending, falling, ending, moved-kept, moved-from, turn}
 
 -- ---- one record
 -- what a tick makes of a record whose timeout it does not end
-falls-one : (x : Task) → (x .remaining ≡ 1 → ⊥) → aged x ≡ withRemaining x (fallen (x .remaining))
+falls-one : (x : Task) → (x .wait .remaining ≡ 1 → ⊥) → aged x ≡ withRemaining x (fallen (x .wait .remaining))
 unfolding fallen
 falls-one x o = ⊎-elim
-    (λ (z : x .remaining ≡ 0). untimed x z ∙ rw (eq-eqb _ _ z, ← z))
-    (λ (n : x .remaining ≡ 0 → ⊥). ⊎-elim
-    (λ (e : x .remaining ≡ endless). unending x n e ∙ rw (ne-eqb _ _ n, eq-eqb _ _ e))
-    (λ (f : x .remaining ≡ endless → ⊥). falling x n f o ∙ rw (ne-eqb _ _ n, ne-eqb _ _ f))
-    (same? (x .remaining) endless))
-    (same? (x .remaining) 0)
+    (λ (z : x .wait .remaining ≡ 0). untimed x z ∙ rw (eq-eqb _ _ z, ← z))
+    (λ (n : x .wait .remaining ≡ 0 → ⊥). ⊎-elim
+    (λ (e : x .wait .remaining ≡ endless). unending x n e ∙ rw (ne-eqb _ _ n, eq-eqb _ _ e))
+    (λ (f : x .wait .remaining ≡ endless → ⊥). falling x n f o ∙ rw (ne-eqb _ _ n, ne-eqb _ _ f))
+    (same? (x .wait .remaining) endless))
+    (same? (x .wait .remaining) 0)
 
 -- in the tables: what is left of the timeout changes
 falls-to : (b w w′ ls ws ns : List ℕ) (t v : ℕ) → t < 25 → (getD w t 0 ≡ 1 → ⊥) → v ≡ fallen (getD w t 0) → tasksOf b w′ ≡ set (tasksOf b w) t (withRemaining (getD (tasksOf b w) t noTask) v)
@@ -42,9 +42,9 @@ falls-to : (b w w′ ls ws ns : List ℕ) (t v : ℕ) → t < 25 → (getD w t 0
 unfolding levelOf rowOf
 falls-to b w w′ ls ws ns t v h o d f =
     let x = getD (tasksOf b w) t noTask in
-    let e : getD w t 0 ≡ x .remaining = left-at b w t h in
-    let p : (x .remaining ≡ 1 → ⊥) = λ z. o (e ∙ z) in
-    rw (falls-one x p, f, d, e) (moved-kept (tasksOf b w) ls ws ns t (withRemaining x (fallen (x .remaining))) refl refl)
+    let e : getD w t 0 ≡ x .wait .remaining = left-at b w t h in
+    let p : (x .wait .remaining ≡ 1 → ⊥) = λ z. o (e ∙ z) in
+    rw (falls-one x p, f, d, e) (moved-kept (stateIn b w ls ws ns) t (withRemaining x (fallen (x .wait .remaining))) refl refl)
 
 falls-at : (b w ls ws ns : List ℕ) (t : ℕ) → t < 25 → length w ≡ 75 → (getD w t 0 ≡ 1 → ⊥)
     → moved t (aged (getD (tasksOf b w) t noTask)) (stateIn b w ls ws ns) ≡ stateIn b (set w t (fallen (getD w t 0))) ls ws ns
@@ -59,9 +59,9 @@ module _ (b w ls ws ns : List ℕ) (t : ℕ) (s : State) (h : t < 25) (i : lapse
   pub ends : (k x : Task) (v : ℕ) (s′ : State) → getD w t 0 ≡ 1 → k ≡ getD (tasksOf b w) t noTask → v ≡ ranOut k → x ≡ ended k v 0
       → s′ ≡ movedFrom t k x (stateIn b w ls ws ns) → lapsed (25 - (t + 1)) (t + 1) s′ ≡ s
   ends k x v s′ o d f g m =
-      let r : getD (tasksOf b w) t noTask .remaining ≡ 1 = sym (left-at b w t h) ∙ o in
-      let z : (getD (tasksOf b w) t noTask .remaining ≡ 0 → ⊥) = λ e. omega arith in
-      let n : (getD (tasksOf b w) t noTask .remaining ≡ endless → ⊥) = λ e. omega arith in
+      let r : getD (tasksOf b w) t noTask .wait .remaining ≡ 1 = sym (left-at b w t h) ∙ o in
+      let z : (getD (tasksOf b w) t noTask .wait .remaining ≡ 0 → ⊥) = λ e. omega arith in
+      let n : (getD (tasksOf b w) t noTask .wait .remaining ≡ endless → ⊥) = λ e. omega arith in
       turn (stateIn b w ls ws ns) t s h i s′ (rw (ending (getD (tasksOf b w) t noTask) z n r, ← d, ← f, ← g) (sym (m ∙ moved-from (stateIn b w ls ws ns) t k x d)))
 
 -- ---- all timeouts at once

@@ -8,51 +8,45 @@ use native.Mathlib.Omega.{arith}
 use lib.ListN.{getD, set, length, drop, drop-of-length-le}
 use lib.Seq.{drop-cons}
 use borrow.Author.Tests.{eq-eqb, ne-eqb}
+use Rattle.model.specs.declared.Queue.{Queue}
 use Rattle.model.specs.declared.Task.{Task}
 use Rattle.model.specs.declared.State.{State}
 use Rattle.model.specs.declared.News.{News}
 use Rattle.model.specs.Row.{relisted}
 use Rattle.model.specs.Task.{noTask, levelOf, rowOf, aged, ended, told, ranOut, withRemaining, endless}
-use Rattle.model.specs.State.{moved, task}
+use Rattle.model.specs.State.{moved, movedFrom, task}
 use Rattle.model.specs.Effect.{lapsed, toldAll}
-use Rattle.numbers.specs.Numbers.{stateOver}
-use Rattle.effects.specs.Lent.{movedFrom}
 
 -- ---- a move in the tables
-kept : (ls : List ℕ) (f g t : ℕ) → g ≡ f → relisted ls f g t ≡ ls
+kept : (ls : List Queue) (f g t : ℕ) → g ≡ f → relisted ls f g t ≡ ls
 unfolding relisted
 kept ls f g t e = rw (e, eq-eqb f f refl)
 
-module _ (r : List Task) (ls ws ns : List ℕ) (t : ℕ) (x : Task) where
-  pub moves : (k : Task) (r′ : List Task) (ls′ ws′ : List ℕ) → r′ ≡ set r t x → ls′ ≡ relisted ls (levelOf k) (levelOf x) t → ws′ ≡ relisted ws (rowOf k) (rowOf x) t
-      → stateOver r′ ls′ ws′ ns ≡ movedFrom t k x (stateOver r ls ws ns)
-  unfolding movedFrom
-  moves k r′ ls′ ws′ d a b = rw (d, a, b)
-
-  -- a record whose queues stay the same
-  pub moved-kept : levelOf x ≡ levelOf (getD r t noTask) → rowOf x ≡ rowOf (getD r t noTask) → moved t x (stateOver r ls ws ns) ≡ stateOver (set r t x) ls ws ns
-  unfolding moved
-  moved-kept e f = rw (kept ls (levelOf (getD r t noTask)) (levelOf x) t e, kept ws (rowOf (getD r t noTask)) (rowOf x) t f)
+-- a record whose queues stay the same
+pub moved-kept : (s : State) (t : ℕ) (x : Task) → levelOf x ≡ levelOf (task s t) → rowOf x ≡ rowOf (task s t)
+    → moved t x s ≡ record { tasks = set (s .tasks) t x; levels = s .levels; waits = s .waits; numbers = s .numbers }
+unfolding moved
+moved-kept s t x e f = rw (kept (s .levels) (levelOf (task s t)) (levelOf x) t e, kept (s .waits) (rowOf (task s t)) (rowOf x) t f)
 
 -- k is the task's record
 pub moved-from : (s : State) (t : ℕ) (k x : Task) → k ≡ task s t → movedFrom t k x s ≡ moved t x s
-unfolding movedFrom moved
+unfolding moved
 moved-from s t k x e = rw e
 
 -- ---- a record after a tick
-pub untimed : (x : Task) → x .remaining ≡ 0 → aged x ≡ x
+pub untimed : (x : Task) → x .wait .remaining ≡ 0 → aged x ≡ x
 unfolding aged
 untimed x e = rw (eq-eqb _ _ e)
 
-pub unending : (x : Task) → (x .remaining ≡ 0 → ⊥) → x .remaining ≡ endless → aged x ≡ x
+pub unending : (x : Task) → (x .wait .remaining ≡ 0 → ⊥) → x .wait .remaining ≡ endless → aged x ≡ x
 unfolding aged
 unending x z e = rw (ne-eqb _ _ z, eq-eqb _ _ e)
 
-pub falling : (x : Task) → (x .remaining ≡ 0 → ⊥) → (x .remaining ≡ endless → ⊥) → (x .remaining ≡ 1 → ⊥) → aged x ≡ withRemaining x (x .remaining - 1)
+pub falling : (x : Task) → (x .wait .remaining ≡ 0 → ⊥) → (x .wait .remaining ≡ endless → ⊥) → (x .wait .remaining ≡ 1 → ⊥) → aged x ≡ withRemaining x (x .wait .remaining - 1)
 unfolding aged
 falling x z e o = rw (ne-eqb _ _ z, ne-eqb _ _ e, ne-eqb _ _ o)
 
-pub ending : (x : Task) → (x .remaining ≡ 0 → ⊥) → (x .remaining ≡ endless → ⊥) → x .remaining ≡ 1 → aged x ≡ ended x (ranOut x) 0
+pub ending : (x : Task) → (x .wait .remaining ≡ 0 → ⊥) → (x .wait .remaining ≡ endless → ⊥) → x .wait .remaining ≡ 1 → aged x ≡ ended x (ranOut x) 0
 unfolding aged
 ending x z e o = rw (ne-eqb _ _ z, ne-eqb _ _ e, eq-eqb _ _ o)
 

@@ -1,32 +1,39 @@
 // What an effect does to the five tables, changed where they lie: a move, a charged tick, the timeouts of a tick, the news to
 // those in a queue. Every contract says which state the tables then stand for.
 ghost use mathlib.Core.Path.{_≡_};
-ghost use lib.ListN.{getD, length};
+ghost use lib.ListN.{length};
 ghost use Rattle.model.specs.Task.{ranOut};
 ghost use Rattle.model.specs.Flag.{flagRow};
-ghost use Rattle.model.specs.State.{moved};
+ghost use Rattle.model.specs.State.{moved, movedFrom};
 ghost use Rattle.model.specs.Effect.{chargedLevel, lapsed, toldAll};
+ghost use Rattle.tables.specs.Lent.{before, after};
 ghost use Rattle.effects.specs.Falling.{fallen, isDue, fallAll};
-ghost use Rattle.effects.specs.Lent.{before, after, movedFrom, semaphoreIn, flagIn};
+ghost use Rattle.effects.specs.Seen.{semaphoreIn, flagIn};
 use model::Flag;
 use model::News;
 use model::Semaphore;
 use model::Task;
-use numbers::number_at;
-use numbers::put_number;
+use queues::lent::first_waiter;
+use queues::lent::relist_levels;
+use queues::lent::relist_waits;
+use queues::lent::turn_level;
+use records::ENDLESS;
+use records::SERVED;
+use records::SLEEP;
+use records::TIMEOUT;
 use stored::put_record;
 use stored::put_remaining;
 use stored::record_at;
 
 // ---- what a call looks at
 // The semaphore that a call names.
-pub fn semaphore_at(numbers: &[u32; 107], waits: &[u8; 504], m: usize) -> Semaphore
-    ensures { λ r. ⌜ r ≡ semaphoreIn (now (numbers .entry)) (now (waits .entry)) m ⌝ }
+pub fn semaphore_at(waits: &[u8; 504], numbers: &[u32; 107], m: usize) -> Semaphore
+    ensures { λ r. ⌜ r ≡ semaphoreIn (now (waits .entry)) (now (numbers .entry)) m ⌝ }
 {
     Semaphore {
-        count: number_at(numbers, 62, 13, m),
-        maximum: number_at(numbers, 75, 13, m),
-        first: rows::first_of(waits, m),
+        count: numbers::count_at(numbers, m),
+        maximum: numbers::maximum_at(numbers, m),
+        first: first_waiter(waits, m),
     }
 }
 
@@ -41,13 +48,13 @@ fn flag_row(f: usize) -> usize
 }
 
 // The flag that a call names.
-pub fn flag_at(numbers: &[u32; 107], waits: &[u8; 504], f: usize) -> Flag
-    ensures { λ r. ⌜ r ≡ flagIn (now (numbers .entry)) (now (waits .entry)) f ⌝ }
+pub fn flag_at(waits: &[u8; 504], numbers: &[u32; 107], f: usize) -> Flag
+    ensures { λ r. ⌜ r ≡ flagIn (now (waits .entry)) (now (numbers .entry)) f ⌝ }
 {
     Flag {
-        attributes: number_at(numbers, 88, 9, f),
-        bits: number_at(numbers, 97, 9, f),
-        first: rows::first_of(waits, flag_row(f)),
+        attributes: numbers::attributes_at(numbers, f),
+        bits: numbers::bits_at(numbers, f),
+        first: first_waiter(waits, flag_row(f)),
     }
 }
 
@@ -64,13 +71,13 @@ pub fn move_from(
 )
     ensures { λ r. ⌜ after bytes words levels waits numbers ≡ movedFrom t k x (before bytes words levels waits numbers) ⌝ }
 {
-    rows::relist(
+    relist_levels(
         levels,
         records::level_of(k) as usize,
         records::level_of(x) as usize,
         t,
     );
-    rows::relist(
+    relist_waits(
         waits,
         records::row_of(k) as usize,
         records::row_of(x) as usize,
@@ -111,29 +118,30 @@ pub fn charge(
 )
     ensures { λ r. ⌜ after bytes words levels waits numbers ≡ chargedLevel l (before bytes words levels waits numbers) ⌝ }
 {
-    let slice = number_at(numbers, 0, 31, l);
-    let next = wide(number_at(numbers, 31, 31, l)) + 1;
+    let slice = numbers::slice_at(numbers, l);
+    let next = wide(numbers::charge_at(numbers, l)) + 1;
     if slice == 0 {
         return;
     }
     if next < wide(slice) {
-        put_number(numbers, 31, 31, l, next as u32);
+        numbers::put_charge(numbers, l, next as u32);
         return;
     }
-    put_number(numbers, 31, 31, l, 0);
-    rows::turn_row(levels, l);
+    numbers::put_charge(numbers, l, 0);
+    turn_level(levels, l);
 }
 
 // ---- the timeouts of a tick
 // How a wait that runs out ends: a sleep with 0, any other with TIMEOUT.
-pub fn ran_out(x: Task) -> u8
+fn ran_out(x: Task) -> u8
     ensures { λ r. ⌜ r ≡ ranOut x ⌝ }
 {
-    let wait = x.wait;
-    if wait == 1 {
-        return 0;
+    let w = x.wait;
+    let kind = w.kind;
+    if kind == SLEEP {
+        return SERVED;
     }
-    4
+    TIMEOUT
 }
 
 // What a tick leaves of a timeout that does not end with it.
@@ -143,7 +151,7 @@ fn fallen(n: u32) -> u32
     if n == 0 {
         return 0;
     }
-    if n == records::ENDLESS {
+    if n == ENDLESS {
         return n;
     }
     n - 1

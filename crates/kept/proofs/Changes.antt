@@ -18,6 +18,7 @@ use Rattle.model.specs.State.{task, slice, count, maximum, attribute, bitsOf, m
 use Rattle.model.specs.Sound.{SoundTask, SoundLevels, SoundSemaphores, SoundFlags, Sound}
 use Rattle.laws.proofs.Number.{same?, below?}
 use Rattle.kept.proofs.Listed.{lists-relisted, lists-turned}
+use Rattle.kept.proofs.Moved.{task-moved, task-kept}
 
 -- ---- what is read after a store
 -- what holds of the values stored in two tables of one length, and of the old ones, holds of what is read
@@ -52,18 +53,17 @@ pub record MayWait (s : State) (t : ℕ) (x : Task) : Type 0 where
   pub single : (f u : ℕ) → 1 ≤ f → f ≤ 8 → T (isSingle (attribute s f)) → rowOf x ≡ f + 12 → rowOf (task s u) ≡ f + 12 → u ≡ t
 
 module _ (s : State) (k : Sound s) (t : ℕ) (x : Task) (some : 1 ≤ t) (top : t ≤ 24) where
-  pub task-same : task (moved t x s) t ≡ x
-  unfolding moved
-  task-same = getD-set-same (s .tasks) t x noTask (omega (arith, k .tasks#))
+  now : task (moved t x s) t ≡ x
+  now = task-moved s t x (omega (arith, k .tasks#))
 
-  pub task-other : (u : ℕ) → (u ≡ t → ⊥) → task (moved t x s) u ≡ task s u
-  unfolding moved
-  task-other u other = getD-set-other (s .tasks) t u x noTask other
+  kept : (u : ℕ) → (u ≡ t → ⊥) → task (moved t x s) u ≡ task s u
+  kept u other = task-kept s t x u (λ e. other (sym e))
 
+  -- what holds of its new record, and of the others', holds of each
   pub task-cases : (P : Task → Type 0) (u : ℕ) → (u ≡ t → P x) → ((u ≡ t → ⊥) → P (task s u)) → P (task (moved t x s) u)
   task-cases P u here else = ⊎-elim
-      (λ (e : u ≡ t). subst P (sym (ap (task (moved t x s)) e ∙ task-same)) (here e))
-      (λ (other : u ≡ t → ⊥). subst P (sym (task-other u other)) (else other))
+      (λ (e : u ≡ t). subst P (sym (ap (task (moved t x s)) e ∙ now)) (here e))
+      (λ (other : u ≡ t → ⊥). subst P (sym (kept u other)) (else other))
       (same? u t)
 
   module _ (sound : SoundTask x) (may : MayWait s t x) where
@@ -71,12 +71,12 @@ module _ (s : State) (k : Sound s) (t : ℕ) (x : Task) (some : 1 ≤ t) (top : 
     unfolding moved levelOf rowOf
     sound-moved = record {
       tasks# = length-set (s .tasks) t x ∙ k .tasks#;
-      nobody = task-other 0 (λ e. omega arith) ∙ k .nobody;
+      nobody = kept 0 (λ e. omega arith) ∙ k .nobody;
       tasks = λ u. task-cases SoundTask u (λ e. sound) (λ other. k .tasks u);
       levels = lists-relisted (s .levels) 31 (λ u. levelOf (task s u)) (k .levels) t (levelOf x) some top (λ u h. ap levelOf (no-task s k u h))
-          (λ u. levelOf (task (moved t x s) u)) (ap levelOf task-same) (λ u other. ap levelOf (task-other u other));
+          (λ u. levelOf (task (moved t x s) u)) (ap levelOf now) (λ u other. ap levelOf (kept u other));
       waits = lists-relisted (s .waits) 21 (λ u. rowOf (task s u)) (k .waits) t (rowOf x) some top (λ u h. ap rowOf (no-task s k u h))
-          (λ u. rowOf (task (moved t x s) u)) (ap rowOf task-same) (λ u other. ap rowOf (task-other u other));
+          (λ u. rowOf (task (moved t x s) u)) (ap rowOf now) (λ u other. ap rowOf (kept u other));
       rates = k .rates;
       semaphores = record {
         counts# = a .counts#;

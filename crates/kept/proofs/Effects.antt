@@ -1,4 +1,4 @@
--- An effect that fits a sound state, by what the tests of its plan have shown, is carried out into a sound state.
+-- A task that stops, a semaphore that is deleted, a flag whose waiters are told and a tick leave a sound state sound.
 -- It rests on the changes of Changes, the records of Records and the queues of Told; the tick goes by induction over the tasks it moves.
 use mathlib.Core.Path.{_≡_, refl}
 use mathlib.Core.Bool.{Bool, true, false, cond}
@@ -11,16 +11,15 @@ use Rattle.model.specs.declared.Task.{Task}
 use Rattle.model.specs.declared.State.{State}
 use Rattle.model.specs.declared.News.{News}
 use Rattle.model.specs.declared.News.the-variants.{Deleted}
-use Rattle.model.specs.declared.Effect.{Effect}
-use Rattle.model.specs.declared.Effect.the-variants.{Nothing, Moves, Stops, Counts, Deletes, Slices, Ticks, Flags, Tells}
 use Rattle.model.specs.Flag.{areKept, isSingle, isMet}
 use Rattle.model.specs.Task.{dormant, activated, aged, rowOf}
 use Rattle.model.specs.State.{task, slice, charge, attribute, time, waiters, running, moved, withCharge, rotated, withTime}
-use Rattle.model.specs.Effect.{stopped, toldAll, deleted, toldFlag, chargedLevel, charged, lapsed, ticked, carried}
+use Rattle.model.specs.Effect.{stopped, toldAll, deleted, toldFlag, chargedLevel, charged, lapsed, ticked}
 use Rattle.model.specs.Sound.{SoundTask, Sound}
 use Rattle.laws.proofs.Record.{flag-row}
-use Rattle.kept.proofs.Changes.{MayWait, FlagFits, sound-moved, sound-counted, sound-flagged, sound-sliced, sound-withCharge, sound-rotated, sound-withTime}
+use Rattle.kept.proofs.Changes.{sound-moved, sound-counted, sound-flagged, sound-withCharge, sound-rotated, sound-withTime}
 use Rattle.kept.proofs.Records.{Stays, sound-dormant, sound-activated, sound-aged, aged-row}
+use Rattle.kept.proofs.Moved.{numbers-told}
 use Rattle.kept.proofs.Told.{may-none, may-same, waiter-in, Told, told-row}
 
 -- attributes a and bits b fit flag f once those who wait on it were told w
@@ -30,20 +29,8 @@ pub record Tellable (s : State) (f : ℕ) (w : News) (a b : ℕ) : Type 0 where
   pub unmet : (x : Task) → SoundTask x → rowOf x ≡ f + 12 → Stays w x → (1 ≤ a) × (isMet (x .wait .pattern) (x .wait .mode) b ≡ false)
   pub single : T (isSingle a) → T (isSingle (attribute s f))
 
--- what a plan's tests have shown of its effect
-pub data Fit (s : State) : Effect → Type 0 where
-  none : Fit s Nothing
-  moves : (t : ℕ) (x : Task) → 1 ≤ t → t ≤ 24 → SoundTask x → MayWait s t x → Fit s (Moves t x)
-  stops : (t : ℕ) → 1 ≤ t → t ≤ 24 → 1 ≤ task s t .base → Fit s (Stops t)
-  counts : (m n v : ℕ) → 1 ≤ m → n ≤ v → v ≤ 65535 → ((t : ℕ) → rowOf (task s t) ≡ m → (n ≡ 0) × (1 ≤ v)) → Fit s (Counts m n v)
-  deletes : (m : ℕ) → 1 ≤ m → m ≤ 12 → Fit s (Deletes m)
-  slices : (l v : ℕ) → 1 ≤ l → v ≤ 1000 → Fit s (Slices l v)
-  ticks : Fit s Ticks
-  flags : (f a b : ℕ) → 1 ≤ f → FlagFits s f a b → Fit s (Flags f a b)
-  tells : (f : ℕ) (w : News) (a b : ℕ) → 1 ≤ f → f ≤ 8 → Tellable s f w a b → Fit s (Tells f w a b)
-
 -- ---- a task stops
-sound-stopped : (s : State) → Sound s → (t : ℕ) → 1 ≤ t → t ≤ 24 → 1 ≤ task s t .base → Sound (stopped t s)
+pub sound-stopped : (s : State) → Sound s → (t : ℕ) → 1 ≤ t → t ≤ 24 → 1 ≤ task s t .base → Sound (stopped t s)
 unfolding stopped rowOf
 sound-stopped s k t some top made = go (eqb (task s t .activations) 0)
   where
@@ -64,29 +51,29 @@ sound-stopped s k t some top made = go (eqb (task s t .activations) 0)
     go false = sound-moved s₁ k₁ t (activated (dormant p)) some top (sound-activated (dormant p) rests made) (may-none s₁ t (activated (dormant p)) refl)
 
 -- ---- a semaphore is deleted, or a flag's waiters are told
-sound-deleted : (s : State) → Sound s → (m : ℕ) → 1 ≤ m → m ≤ 12 → Sound (deleted m s)
+pub sound-deleted : (s : State) → Sound s → (m : ℕ) → 1 ≤ m → m ≤ 12 → Sound (deleted m s)
 unfolding deleted
 sound-deleted s k m some top = sound-counted (toldAll Deleted (waiters s m) s) m 0 0 (z .sound) some (omega arith) (omega arith) (λ t e. absurd (nobody t e))
   where
-    z : Told Deleted m s (toldAll Deleted (waiters s m) s)
+    z : Told Deleted m (toldAll Deleted (waiters s m) s)
     z = told-row Deleted s k m some (omega arith)
 
     nobody : (t : ℕ) → rowOf (task (toldAll Deleted (waiters s m) s) t) ≡ m → ⊥
     nobody t e = z .stays t (waiter-in (toldAll Deleted (waiters s m) s) (z .sound) t (omega arith) .0) e
 
-sound-toldFlag : (s : State) → Sound s → (f : ℕ) (w : News) (a b : ℕ) → 1 ≤ f → f ≤ 8 → Tellable s f w a b → Sound (toldFlag f w a b s)
+pub sound-toldFlag : (s : State) → Sound s → (f : ℕ) (w : News) (a b : ℕ) → 1 ≤ f → f ≤ 8 → Tellable s f w a b → Sound (toldFlag f w a b s)
 unfolding toldFlag
 sound-toldFlag s k f w a b low top fits = rw (flag-row f low top) (sound-flagged s′ f a b (z .sound) low (record {
   kept = fits .kept;
   none = fits .none;
   unmet = λ t e. fits .unmet (task s′ t) (z .sound .tasks t) e (z .stays t (waiter-in s′ (z .sound) t (omega arith) .0) e);
-  single = λ one t u. z .sound .flags .single f t u low top (rw (z .kept) (fits .single one));
+  single = λ one t u. z .sound .flags .single f t u low top (rw (numbers-told w (waiters s (f + 12)) s) (fits .single one));
 }))
   where
     s′ : State
     s′ = toldAll w (waiters s (f + 12)) s
 
-    z : Told w (f + 12) s s′
+    z : Told w (f + 12) s′
     z = told-row w s k (f + 12) (omega arith) (omega arith)
 
 -- ---- a tick passes
@@ -119,22 +106,9 @@ sound-lapsed (suc n) t s k some top =
     (⊎-elim (may-none s t (aged (task s t))) (may-same s k t (aged (task s t))) (aged-row (task s t))))
     (omega arith) (omega arith)
 
-sound-ticked : (s : State) → Sound s → Sound (ticked s)
+pub sound-ticked : (s : State) → Sound s → Sound (ticked s)
 unfolding ticked
 sound-ticked s k =
     sound-lapsed 24 1 (charged (running s) (withTime ((time s + 1) % 2 ^ 32) s))
     (sound-charged (withTime ((time s + 1) % 2 ^ 32) s) (sound-withTime s ((time s + 1) % 2 ^ 32) k) (running s))
     (omega arith) (omega arith)
-
--- ---- any effect
-pub sound-carried : {s : State} {e : Effect} → Sound s → Fit s e → Sound (carried s e)
-unfolding carried
-sound-carried k none = k
-sound-carried {s} k (moves t x low top sound may) = sound-moved s k t x low top sound may
-sound-carried {s} k (stops t low top made) = sound-stopped s k t low top made
-sound-carried {s} k (counts m n v low most top free) = sound-counted s m n v k low most top free
-sound-carried {s} k (deletes m low top) = sound-deleted s k m low top
-sound-carried {s} k (slices l v low top) = sound-sliced s l v k low top
-sound-carried {s} k ticks = sound-ticked s k
-sound-carried {s} k (flags f a b low fits) = sound-flagged s f a b k low fits
-sound-carried {s} k (tells f w a b low top fits) = sound-toldFlag s k f w a b low top fits

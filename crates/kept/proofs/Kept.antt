@@ -1,5 +1,5 @@
 -- The theorems of specs/Statements: sound states stay sound, refused calls change nothing, and the first of the best level runs.
--- They go by the shapes of the plans (Shapes), the effects (Effects), the fresh state (Fresh) and the search for the best level (Running).
+-- They go by the ways of ways (Accepted), the fresh state (Fresh) and the search for the best level (Running).
 use mathlib.Core.Path.{_≡_, refl}
 use mathlib.Core.Bool.{Bool, true, false, cond}
 use mathlib.Core.List.{[], _∷_}
@@ -17,27 +17,29 @@ use Rattle.model.specs.Effect.{carried}
 use Rattle.model.specs.Call.{step, call}
 use Rattle.model.specs.Test.{isSound}
 use Rattle.model.specs.Sound.{Sound}
+use Rattle.ways.specs.Kind.{Kind}
+use Rattle.ways.specs.Entry.{Entry}
+use Rattle.ways.proofs.Done.{Way, refuses, accepts}
+use Rattle.ways.proofs.Ways.{way}
 use Rattle.kept.specs.Statements
 use Rattle.kept.specs.Statements.{FreshIsSound, SoundStaysSound, CallStaysSound, reached, ReachedIsSound, RefusedIsUnchanged, RefusedCallIsUnchanged, Runs, RunsFirst, AnswerRunsFirst}
-use Rattle.kept.proofs.Effects.{sound-carried}
 use Rattle.kept.proofs.Running.{Best, nobody, stands, best, row-empty}
-use Rattle.kept.proofs.Shape.{Shape, refuses, accepts}
-use Rattle.kept.proofs.Shapes.{shape}
+use Rattle.kept.proofs.Accepted.{sound-done}
 use Rattle.kept.proofs.Fresh.{sound-fresh}
 
 -- ---- sound states
 pub fresh-is-sound : FreshIsSound
 fresh-is-sound = sound-fresh
 
--- a plan of either shape keeps a sound state sound
-shape-sound : {s : State} {p : Plan} → Sound s → Shape s p → Sound (carried s (p .effect))
+-- a plan keeps a sound state sound, whichever way it goes
+way-sound : {s : State} {j : Kind} {i : Entry} {p : Plan} → Sound s → Way s j i p → Sound (carried s (p .effect))
 unfolding carried
-shape-sound k (refuses c n) = k
-shape-sound k (accepts c v e n fit) = sound-carried k (fit k)
+way-sound k (refuses c n d) = k
+way-sound k (accepts c v e n d done) = sound-done k done
 
 pub sound-stays-sound : SoundStaysSound
 unfolding step
-sound-stays-sound s c a k = shape-sound k (shape s c a)
+sound-stays-sound s c a k = way-sound k (way s c a)
 
 -- the answer of a state that is not sound
 abbrev unsound : State → Answer
@@ -57,14 +59,14 @@ reached-is-sound s [] k = k
 reached-is-sound s (a ∷ rest) k = reached-is-sound (step s (a .0) (a .1) .state) rest (sound-stays-sound s (a .0) (a .1) k)
 
 -- ---- refusals
-shape-unchanged : {s : State} {p : Plan} → Shape s p → isRefusal (p .code) ≡ true → carried s (p .effect) ≡ s
+way-unchanged : {s : State} {j : Kind} {i : Entry} {p : Plan} → Way s j i p → isRefusal (p .code) ≡ true → carried s (p .effect) ≡ s
 unfolding carried
-shape-unchanged (refuses c n) e = refl
-shape-unchanged (accepts c v x n fit) e = absurd (T-not (isRefusal c) n (rw e tt))
+way-unchanged (refuses c n d) e = refl
+way-unchanged (accepts c v x n d done) e = absurd (T-not (isRefusal c) n (rw e tt))
 
 pub refused-is-unchanged : RefusedIsUnchanged
 unfolding step
-refused-is-unchanged s c a e = shape-unchanged (shape s c a) e
+refused-is-unchanged s c a e = way-unchanged (way s c a) e
 
 pub refused-call-is-unchanged : RefusedCallIsUnchanged
 unfolding call

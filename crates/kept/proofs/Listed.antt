@@ -12,10 +12,10 @@ use Rattle.model.specs.declared.Queue.{Queue}
 use Rattle.model.specs.Row.{joined, left, turned, row, firstOf, withRow, relisted}
 use Rattle.model.specs.Test.{one, occ, padded, isListed}
 use Rattle.model.specs.Sound.{Lists}
-use Rattle.laws.proofs.Number.{same?}
-use Rattle.laws.proofs.Row.{length-turned}
-use Rattle.laws.proofs.Table.{length-withRow, row-withRow, length-row-withRow}
-use Rattle.laws.proofs.Relisted.{relisted-kept, length-relisted, length-row-relisted, row-relisted-from, row-relisted-to, row-relisted-other, row-relisted-zero}
+use Rattle.laws.proofs.Number.{same?, below?}
+use Rattle.laws.proofs.Row.{length-joined, length-left, length-turned}
+use Rattle.laws.proofs.Table.{length-withRow, row-withRow}
+use Rattle.laws.proofs.Relisted.{relisted-kept, length-relisted, row-relisted-past, row-relisted-from, row-relisted-to, row-relisted-other, row-relisted-zero}
 use Rattle.laws.proofs.Occ.{one-le, occ-left-same, occ-left-other, occ-joined-same, occ-joined-other, occ-turned, first-in}
 use Rattle.laws.proofs.Padded.{padded-left, padded-joined, padded-turned}
 use Rattle.laws.proofs.Room.{room}
@@ -58,23 +58,24 @@ module _ (ls : List Queue) (n : ℕ) (key : ℕ → ℕ) (k : Lists ls n key) wh
 
 -- ---- a task leaves its row for another
 -- what holds of a row as it was, where both keys say the same of it, of the row that was left and of the one that was joined, holds of each row
-module _ (P : List ℕ → Type 0) (ls : List Queue) (f g t l : ℕ) (top : l < length ls) where
-  pub row-cases : (one (isListed l f) ≡ one (isListed l g) → P (row ls l)) → ((f ≡ g → ⊥) → 1 ≤ l → l ≡ f → P (left (row ls f) t))
+module _ (P : List ℕ → Type 0) (ls : List Queue) (f g t l : ℕ) where
+  pub row-cases : ((l < length ls → one (isListed l f) ≡ one (isListed l g)) → P (row ls l)) → ((f ≡ g → ⊥) → 1 ≤ l → l ≡ f → P (left (row ls f) t))
       → ((f ≡ g → ⊥) → 1 ≤ l → l ≡ g → P (joined (row ls g) t)) → P (row (relisted ls f g t) l)
-  row-cases stays leaves joins = go (same? f g) (same? l 0) (same? l f) (same? l g)
+  row-cases stays leaves joins = go (same? f g) (same? l 0) (below? l (length ls)) (same? l f) (same? l g)
     where
-      go : (f ≡ g) ⊎ (f ≡ g → ⊥) → (l ≡ 0) ⊎ (l ≡ 0 → ⊥) → (l ≡ f) ⊎ (l ≡ f → ⊥) → (l ≡ g) ⊎ (l ≡ g → ⊥) → P (row (relisted ls f g t) l)
-      go (inl e) z a b = rw (relisted-kept ls f g t e) (stays (rw e))
-      go (inr apart) (inl z) a b = rw (z, row-relisted-zero ls f g t) (rw z at (stays (rw z)))
-      go (inr apart) (inr low) (inl e) b = rw (e, row-relisted-from ls f g t apart (λ z. low (e ∙ z)) (rw e at top)) (leaves apart (omega arith) e)
-      go (inr apart) (inr low) (inr not-f) (inl e) = rw (e, row-relisted-to ls f g t apart (λ z. low (e ∙ z)) (rw e at top)) (joins apart (omega arith) e)
-      go (inr apart) (inr low) (inr not-f) (inr not-g) =
-          rw (row-relisted-other ls f g t l not-f not-g) (stays (listed-none l f (λ _ e. not-f (sym e)) ∙ sym (listed-none l g (λ _ e. not-g (sym e)))))
+      go : (f ≡ g) ⊎ (f ≡ g → ⊥) → (l ≡ 0) ⊎ (l ≡ 0 → ⊥) → (l < length ls) ⊎ (length ls ≤ l) → (l ≡ f) ⊎ (l ≡ f → ⊥) → (l ≡ g) ⊎ (l ≡ g → ⊥) → P (row (relisted ls f g t) l)
+      go (inl e) z h a b = rw (relisted-kept ls f g t e) (stays (λ _. rw e))
+      go (inr apart) (inl z) h a b = rw (z, row-relisted-zero ls f g t) (rw z at (stays (λ _. rw z)))
+      go (inr apart) (inr low) (inr past) a b = rw (row-relisted-past ls f g t l past) (stays (λ top. absurd (omega arith)))
+      go (inr apart) (inr low) (inl top) (inl e) b = rw (e, row-relisted-from ls f g t apart (λ z. low (e ∙ z)) (rw e at top)) (leaves apart (omega arith) e)
+      go (inr apart) (inr low) (inl top) (inr not-f) (inl e) = rw (e, row-relisted-to ls f g t apart (λ z. low (e ∙ z)) (rw e at top)) (joins apart (omega arith) e)
+      go (inr apart) (inr low) (inl top) (inr not-f) (inr not-g) =
+          rw (row-relisted-other ls f g t l not-f not-g) (stays (λ _. listed-none l f (λ _ e. not-f (sym e)) ∙ sym (listed-none l g (λ _ e. not-g (sym e)))))
 
 module _ (ls : List Queue) (n : ℕ) (key : ℕ → ℕ) (k : Lists ls n key) (t g : ℕ) (some : 1 ≤ t) (top : t ≤ 24) (far : (u : ℕ) → 24 < u → key u ≡ 0) where
   -- where it now stands
   stands : (l : ℕ) → l < n → occ t (row (relisted ls (key t) g t) l) ≡ one (isListed l g)
-  stands l h = row-cases (λ q. occ t q ≡ one (isListed l g)) ls (key t) g t l (omega (arith, k .sized)) (λ same. k .exactly l t h some ∙ same) leaves joins
+  stands l h = row-cases (λ q. occ t q ≡ one (isListed l g)) ls (key t) g t l (λ same. k .exactly l t h some ∙ same (omega (arith, k .sized))) leaves joins
     where
       leaves : (key t ≡ g → ⊥) → 1 ≤ l → l ≡ key t → occ t (left (row ls (key t)) t) ≡ one (isListed l g)
       leaves apart low e =
@@ -89,18 +90,20 @@ module _ (ls : List Queue) (n : ℕ) (key : ℕ → ℕ) (k : Lists ls n key) (t
   pub lists-relisted : (key′ : ℕ → ℕ) → key′ t ≡ g → ((u : ℕ) → (u ≡ t → ⊥) → key′ u ≡ key u) → Lists (relisted ls (key t) g t) n key′
   lists-relisted key′ now others = record {
     sized = length-relisted ls (key t) g t ∙ k .sized;
-    places = λ l. length-row-relisted ls (key t) g t l ∙ k .places l;
+    places = λ l. row-cases (λ q. length q ≡ 24) ls (key t) g t l (λ _. k .places l)
+        (λ _ _ _. length-left (row ls (key t)) t ∙ k .places (key t))
+        (λ _ _ _. length-joined (row ls g) t ∙ k .places g);
     exactly = λ l u h low. ⊎-elim
         (λ (e : u ≡ t). rw (e, now) (stands l h))
-        (λ (other : u ≡ t → ⊥). rw (others u other) (kept l u h low other ∙ k .exactly l u h low))
+        (λ (other : u ≡ t → ⊥). rw (others u other) (kept l u low other ∙ k .exactly l u h low))
         (same? u t);
-    ends = λ l h. row-cases (λ q. T (padded q)) ls (key t) g t l (omega (arith, k .sized)) (λ _. k .ends l h)
+    ends = λ l h. row-cases (λ q. T (padded q)) ls (key t) g t l (λ _. k .ends l h)
         (λ _ _ e. padded-left (row ls (key t)) t (rw e at (k .ends l h)))
         (λ _ _ e. padded-joined (row ls g) t (rw e at (k .ends l h)));
   }
     where
-      kept : (l u : ℕ) → l < n → 1 ≤ u → (u ≡ t → ⊥) → occ u (row (relisted ls (key t) g t) l) ≡ occ u (row ls l)
-      kept l u h low other = row-cases (λ q. occ u q ≡ occ u (row ls l)) ls (key t) g t l (omega (arith, k .sized)) (λ _. refl)
+      kept : (l u : ℕ) → 1 ≤ u → (u ≡ t → ⊥) → occ u (row (relisted ls (key t) g t) l) ≡ occ u (row ls l)
+      kept l u low other = row-cases (λ q. occ u q ≡ occ u (row ls l)) ls (key t) g t l (λ _. refl)
           (λ _ _ e. rw e (occ-left-other (row ls (key t)) t u low other))
           (λ _ _ e. rw e (occ-joined-other (row ls g) t u low other))
 
@@ -108,7 +111,7 @@ module _ (ls : List Queue) (n : ℕ) (key : ℕ → ℕ) (k : Lists ls n key) (t
 pub lists-turned : (ls : List Queue) (n : ℕ) (key : ℕ → ℕ) (l : ℕ) → Lists ls n key → Lists (withRow ls l (turned (row ls l))) n key
 lists-turned ls n key l k = record {
   sized = length-withRow ls l q ∙ k .sized;
-  places = λ m. length-row-withRow ls l q (length-turned (row ls l)) m ∙ k .places m;
+  places = λ m. row-withRow ls l q (λ w. length w ≡ 24) m (λ _. length-turned (row ls l) ∙ k .places l) (k .places m);
   exactly = λ m u h low. row-withRow ls l q (λ w. occ u w ≡ one (isListed m (key u))) m (λ e. rw (← e) (occ-turned (row ls m) u low ∙ k .exactly m u h low)) (k .exactly m u h low);
   ends = λ m h. row-withRow ls l q (λ w. T (padded w)) m (λ e. rw (← e) (padded-turned (row ls m) (k .ends m h))) (k .ends m h);
 }

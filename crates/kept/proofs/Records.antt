@@ -3,33 +3,23 @@
 use mathlib.Core.Path.{_≡_, refl, ap}
 use mathlib.Core.Bool.{Bool, true, false, cond, not, _&&_}
 use mathlib.Core.Logic.{_⊎_, inl, inr}
-use Prim.Native.Nat.{ℕ, zero, suc, _-_, _≤_}
+use Prim.Native.Nat.{ℕ, _-_, _≤_}
 use native.Mathlib.Omega.{arith}
 use lib.Dec.{T, eqb}
-use borrow.Author.Tests.{eqb-true, eqb-false}
+use borrow.Author.Tests.{eqb-false}
 use Rattle.model.specs.declared.Wait.{Wait}
 use Rattle.model.specs.declared.Task.{Task}
 use Rattle.model.specs.declared.News.{News}
 use Rattle.model.specs.declared.News.the-variants.{Deleted, Bits}
 use Rattle.model.specs.Flag.{isMet}
-use Rattle.model.specs.Task.{nothing, aSleep, aSemaphore, aFlag, served, dlt, isDormant, isSuspended, isWaiting, isAsleep, isRunnable, isTimed, endless, levelOf, rowOf, ranOut, aged, told}
-use Rattle.model.specs.Task.{noWait, asleep, onSemaphore, onFlag, dormant, activated, created, withPriority, withSuspended, withWakeups, withActivations, withRemaining, waiting, ended}
+use Rattle.model.specs.Task.{nothing, aSleep, served, dlt, isDormant, isSuspended, isWaiting, isAsleep, isRunnable, isTimed, endless, levelOf, rowOf, ranOut, aged, told}
+use Rattle.model.specs.Task.{asleep, onSemaphore, onFlag, dormant, activated, created, withPriority, withSuspended, withWakeups, withActivations, withRemaining, waiting, ended}
 use Rattle.model.specs.Test.{isWaitCode}
 use Rattle.model.specs.Sound.{SoundTask}
 use Rattle.laws.proofs.Padded.{both}
 use Rattle.laws.proofs.Record.{row-waits}
-
--- ---- tests
-pub some-of : (n : ℕ) → T (not (eqb n 0)) → 1 ≤ n
-some-of zero h = absurd h
-some-of (suc n) h = omega arith
-
-pub none-of : (n : ℕ) → T (not (not (eqb n 0))) → n ≡ 0
-none-of n h = go (eqb n 0) refl h
-  where
-    go : (b : Bool) → eqb n 0 ≡ b → T (not (not b)) → n ≡ 0
-    go true e h = eqb-true n 0 e
-    go false e h = absurd h
+use Rattle.laws.proofs.Waits.{SoundWait, SoundAsk, unasked, wait-none, ask-none, WaitOf, wait-of, ask-of, sound-of}
+use Rattle.ways.proofs.Tests.{some-of, none-of}
 
 -- ---- what a sound record's fields say of each other
 module _ (x : Task) (k : SoundTask x) where
@@ -49,7 +39,7 @@ level-live x h = go (isRunnable x) h (both (not (isDormant x)) (not (isSuspended
   where
     go : (b : Bool) → 1 ≤ cond b (x .priority) 0 → (T b → T (not (isDormant x)) × T (not (isSuspended x) && not (isWaiting x)))
         → (1 ≤ x .active) × (x .wait .kind ≡ nothing)
-    go true h r = (some-of (x .active) (r tt .0), none-of (x .wait .kind) (both (not (isSuspended x)) (not (isWaiting x)) (r tt .1) .1))
+    go true h r = (some-of (x .active) .yields (r tt .0), none-of (x .wait .kind) .yields (both (not (isSuspended x)) (not (isWaiting x)) (r tt .1) .1))
     go false h r = absurd (omega arith)
 
 pub row-live : (x : Task) → SoundTask x → 1 ≤ rowOf x → 1 ≤ x .active
@@ -57,46 +47,11 @@ row-live x k h = waiting-live x k (λ z. omega (arith, row-waits x h))
 
 -- ---- records that wait for nothing
 pub sound-dormant : (p : ℕ) → 1 ≤ p → p ≤ 30 → SoundTask (dormant p)
-sound-dormant p low top = record {
-  blank = λ e. absurd (omega arith);
-  base = top;
-  priority = λ h. (low, top);
-  active = omega arith;
-  suspended = omega arith;
-  wakeups = omega arith;
-  activations = omega arith;
-  code = tt;
-  dormant = λ e. (refl, refl, refl, refl, refl, refl, refl);
-  wait = inl refl;
-  waiting = λ waits. absurd (waits refl);
-  free = λ e. (refl, refl);
-  sleeper = λ e. absurd (omega arith);
-  object = λ e. absurd (omega arith);
-  flag = λ e. absurd (omega arith);
-  asks = λ e. absurd (omega arith);
-  silent = λ n. (refl, refl);
-}
+sound-dormant p low top = sound-of (dormant p) (low, top) (low, top) (omega arith) (omega arith) (omega arith) (omega arith) tt (λ e. (refl, refl, refl, refl, refl, refl, refl)) (wait-none 0 0 0) ask-none
 
 pub sound-activated : (x : Task) → SoundTask x → 1 ≤ x .base → SoundTask (activated x)
-sound-activated x k made = record {
-  blank = λ e. absurd (omega arith);
-  base = k .base;
-  priority = k .priority;
-  active = omega arith;
-  suspended = k .suspended;
-  wakeups = k .wakeups;
-  activations = k .activations;
-  code = k .code;
-  dormant = λ e. absurd (omega arith);
-  wait = k .wait;
-  waiting = k .waiting;
-  free = k .free;
-  sleeper = k .sleeper;
-  object = k .object;
-  flag = k .flag;
-  asks = k .asks;
-  silent = k .silent;
-}
+sound-activated x k made =
+    sound-of (activated x) (made, k .base) (k .priority made) (omega arith) (k .suspended) (k .wakeups) (k .activations) (k .code) (λ e. absurd (omega arith)) (wait-of x k) (ask-of x k)
 
 pub sound-created : (p o : ℕ) → 1 ≤ p → p ≤ 30 → SoundTask (created p o)
 sound-created p o low top = go (eqb o 0)
@@ -106,103 +61,58 @@ sound-created p o low top = go (eqb o 0)
     go false = sound-activated (dormant p) (sound-dormant p low top) low
 
 -- ---- records of a live task
--- the clauses of what a wait asks for
-record SoundAsk (w : Wait) : Type 0 where
-  flag : w .kind ≡ aFlag → (1 ≤ w .object) × (w .object ≤ 8)
-  asks : w .kind ≡ aFlag → (1 ≤ w .pattern) × (w .mode ≤ 1)
-  silent : (w .kind ≡ aFlag → ⊥) → (w .pattern ≡ 0) × (w .mode ≡ 0)
-
--- no other wait asks for anything
-unasked : (w : Wait) → (w .kind ≡ aFlag → ⊥) → (w .pattern ≡ 0) × (w .mode ≡ 0) → SoundAsk w
-unasked w other none = record { flag = λ e. absurd (other e); asks = λ e. absurd (other e); silent = λ n. none }
-
--- the clauses of a wait, at n wakeups, code v and bits b
-record SoundWait (w : Wait) (n v b : ℕ) : Type 0 where
-  wait : (w .kind ≡ nothing) ⊎ ((w .kind ≡ aSleep) ⊎ ((w .kind ≡ aSemaphore) ⊎ (w .kind ≡ aFlag)))
-  waiting : (w .kind ≡ nothing → ⊥) → (1 ≤ w .remaining) × (v ≡ 0) × (b ≡ 0)
-  free : w .kind ≡ nothing → (w .remaining ≡ 0) × (w .object ≡ 0)
-  sleeper : w .kind ≡ aSleep → (n ≡ 0) × (w .object ≡ 0)
-  object : w .kind ≡ aSemaphore → (1 ≤ w .object) × (w .object ≤ 12)
-  ask : SoundAsk w
-
 module _ (x : Task) (k : SoundTask x) (live : 1 ≤ x .active) where
   -- it stays what it was created as, and live
   still : (y : Task) → y .base ≡ x .base → y .active ≡ x .active → (1 ≤ y .priority) × (y .priority ≤ 30) → y .suspended ≤ 1 → y .wakeups ≤ 1 → y .activations ≤ 1
-      → T (isWaitCode (y .code)) → SoundWait (y .wait) (y .wakeups) (y .code) (y .handed) → SoundTask y
-  still y same lives priority suspended wakeups activations code w = record {
-    blank = λ e. absurd (omega (arith, live-made x k live));
-    base = rw same (k .base);
-    priority = λ h. priority;
-    active = rw lives (k .active);
-    suspended = suspended;
-    wakeups = wakeups;
-    activations = activations;
-    code = code;
-    dormant = λ e. absurd (omega arith);
-    wait = w .wait;
-    waiting = w .waiting;
-    free = w .free;
-    sleeper = w .sleeper;
-    object = w .object;
-    flag = w .ask .flag;
-    asks = w .ask .asks;
-    silent = w .ask .silent;
-  }
+      → T (isWaitCode (y .code)) → WaitOf y → SoundAsk (y .wait) → SoundTask y
+  still y same lives priority suspended wakeups activations code =
+      sound-of y (rw same (live-made x k live, k .base)) priority (rw lives (k .active)) suspended wakeups activations code (λ e. absurd (omega arith))
 
   priority-now : (1 ≤ x .priority) × (x .priority ≤ 30)
   priority-now = k .priority (live-made x k live)
 
-  -- the wait stays as it was
-  ask-now : SoundAsk (x .wait)
-  ask-now = record { flag = k .flag; asks = k .asks; silent = k .silent }
-
-  wait-now : SoundWait (x .wait) (x .wakeups) (x .code) (x .handed)
-  wait-now = record { wait = k .wait; waiting = k .waiting; free = k .free; sleeper = k .sleeper; object = k .object; ask = ask-now }
-
   pub sound-withPriority : (p : ℕ) → 1 ≤ p → p ≤ 30 → SoundTask (withPriority x p)
-  sound-withPriority p low top = still (withPriority x p) refl refl (low, top) (k .suspended) (k .wakeups) (k .activations) (k .code) wait-now
+  sound-withPriority p low top = still (withPriority x p) refl refl (low, top) (k .suspended) (k .wakeups) (k .activations) (k .code) (wait-of x k) (ask-of x k)
 
   pub sound-withSuspended : (n : ℕ) → n ≤ 1 → SoundTask (withSuspended x n)
-  sound-withSuspended n h = still (withSuspended x n) refl refl priority-now h (k .wakeups) (k .activations) (k .code) wait-now
+  sound-withSuspended n h = still (withSuspended x n) refl refl priority-now h (k .wakeups) (k .activations) (k .code) (wait-of x k) (ask-of x k)
 
   pub sound-withActivations : (n : ℕ) → n ≤ 1 → SoundTask (withActivations x n)
-  sound-withActivations n h = still (withActivations x n) refl refl priority-now (k .suspended) (k .wakeups) h (k .code) wait-now
+  sound-withActivations n h = still (withActivations x n) refl refl priority-now (k .suspended) (k .wakeups) h (k .code) (wait-of x k) (ask-of x k)
 
   -- a sleeper's wakeup count is 0
   pub sound-withWakeups : (n : ℕ) → n ≤ 1 → (x .wait .kind ≡ aSleep → n ≡ 0) → SoundTask (withWakeups x n)
   sound-withWakeups n h awake =
       still (withWakeups x n) refl refl priority-now (k .suspended) h (k .activations) (k .code)
-      (record { wait = k .wait; waiting = k .waiting; free = k .free; sleeper = λ e. (awake e, k .sleeper e .1); object = k .object; ask = ask-now })
+      (record { wait = k .wait; waiting = k .waiting; free = k .free; sleeper = λ e. (awake e, k .sleeper e .1); object = k .object; flag = k .flag }) (ask-of x k)
 
   pub sound-withRemaining : (d : ℕ) → 1 ≤ d → (x .wait .kind ≡ nothing → ⊥) → SoundTask (withRemaining x d)
   sound-withRemaining d some waits =
       still (withRemaining x d) refl refl priority-now (k .suspended) (k .wakeups) (k .activations) (k .code)
-      (record { wait = k .wait; waiting = λ n. (some, k .waiting n .1, k .waiting n .2); free = λ e. absurd (waits e); sleeper = k .sleeper; object = k .object; ask = record { flag = k .flag; asks = k .asks; silent = k .silent } })
+      (record { wait = k .wait; waiting = λ n. (some, k .waiting n .1, k .waiting n .2); free = λ e. absurd (waits e); sleeper = k .sleeper; object = k .object; flag = k .flag }) (record { asks = k .asks; silent = k .silent })
 
   pub sound-ended : (v b : ℕ) → T (isWaitCode v) → SoundTask (ended x v b)
   sound-ended v b h =
-      still (ended x v b) refl refl priority-now (k .suspended) (k .wakeups) (k .activations) h
-      (record { wait = inl refl; waiting = λ n. absurd (n refl); free = λ e. (refl, refl); sleeper = λ e. absurd (omega arith); object = λ e. absurd (omega arith); ask = unasked noWait (λ e. omega arith) (refl, refl) })
+      still (ended x v b) refl refl priority-now (k .suspended) (k .wakeups) (k .activations) h (wait-none (x .wakeups) v b) ask-none
 
   -- a wait begins
-  begins : (w : Wait) → SoundWait w (x .wakeups) 0 0 → SoundTask (waiting x w)
-  begins w sound = still (waiting x w) refl refl priority-now (k .suspended) (k .wakeups) (k .activations) tt sound
+  begins : (w : Wait) → SoundWait w (x .wakeups) 0 0 → SoundAsk w → SoundTask (waiting x w)
+  begins w = still (waiting x w) refl refl priority-now (k .suspended) (k .wakeups) (k .activations) tt
 
   pub sound-asleep : (d : ℕ) → 1 ≤ d → x .wakeups ≡ 0 → SoundTask (waiting x (asleep d))
-  sound-asleep d some none =
-      begins (asleep d)
-      (record { wait = inr (inl refl); waiting = λ n. (some, refl, refl); free = λ e. absurd (omega arith); sleeper = λ e. (none, refl); object = λ e. absurd (omega arith); ask = unasked (asleep d) (λ e. omega arith) (refl, refl) })
+  sound-asleep d some none = begins (asleep d)
+      (record { wait = inr (inl refl); waiting = λ n. (some, refl, refl); free = λ e. absurd (omega arith); sleeper = λ e. (none, refl); object = λ e. absurd (omega arith); flag = λ e. absurd (omega arith) })
+      (unasked (asleep d) (λ e. omega arith) (refl, refl))
 
   pub sound-queued : (m d : ℕ) → 1 ≤ m → m ≤ 12 → 1 ≤ d → SoundTask (waiting x (onSemaphore m d))
-  sound-queued m d low top some =
-      begins (onSemaphore m d)
-      (record { wait = inr (inr (inl refl)); waiting = λ n. (some, refl, refl); free = λ e. absurd (omega arith); sleeper = λ e. absurd (omega arith); object = λ e. (low, top); ask = unasked (onSemaphore m d) (λ e. omega arith) (refl, refl) })
+  sound-queued m d low top some = begins (onSemaphore m d)
+      (record { wait = inr (inr (inl refl)); waiting = λ n. (some, refl, refl); free = λ e. absurd (omega arith); sleeper = λ e. absurd (omega arith); object = λ e. (low, top); flag = λ e. absurd (omega arith) })
+      (unasked (onSemaphore m d) (λ e. omega arith) (refl, refl))
 
   pub sound-asking : (f p m d : ℕ) → 1 ≤ f → f ≤ 8 → 1 ≤ d → 1 ≤ p → m ≤ 1 → SoundTask (waiting x (onFlag f p m d))
-  sound-asking f p m d low top some bits mode =
-      let ask : SoundAsk (onFlag f p m d) = record { flag = λ e. (low, top); asks = λ e. (bits, mode); silent = λ n. absurd (n refl) } in
-      begins (onFlag f p m d)
-      (record { wait = inr (inr (inr refl)); waiting = λ n. (some, refl, refl); free = λ e. absurd (omega arith); sleeper = λ e. absurd (omega arith); object = λ e. absurd (omega arith); ask = ask })
+  sound-asking f p m d low top some bits mode = begins (onFlag f p m d)
+      (record { wait = inr (inr (inr refl)); waiting = λ n. (some, refl, refl); free = λ e. absurd (omega arith); sleeper = λ e. absurd (omega arith); object = λ e. absurd (omega arith); flag = λ e. (low, top) })
+      (record { asks = λ e. (bits, mode); silent = λ n. absurd (n refl) })
 
   pub sound-told : (w : News) → SoundTask (told w x)
   unfolding told
@@ -255,9 +165,9 @@ sound-aged x k = go (isTimed x) (eqb (x .wait .remaining) 1) (λ h. both (not (e
 
     go : (a b : Bool) → (T a → T (not (eqb (x .wait .remaining) 0))) → eqb (x .wait .remaining) 1 ≡ b
         → SoundTask (cond a (cond b (ended x (ranOut x) 0) (withRemaining x (x .wait .remaining - 1))) x)
-    go true true timed e = sound-ended x k (waiting-live x k (waits (some-of (x .wait .remaining) (timed tt)))) (ranOut x) 0 (code-out x)
+    go true true timed e = sound-ended x k (waiting-live x k (waits (some-of (x .wait .remaining) .yields (timed tt)))) (ranOut x) 0 (code-out x)
     go true false timed e =
-        let some : 1 ≤ x .wait .remaining = some-of (x .wait .remaining) (timed tt) in
+        let some : 1 ≤ x .wait .remaining = some-of (x .wait .remaining) .yields (timed tt) in
         let more : x .wait .remaining ≡ 1 → ⊥ = eqb-false (x .wait .remaining) 1 e in
         sound-withRemaining x k (waiting-live x k (waits some)) (x .wait .remaining - 1) (omega arith) (waits some)
     go false b timed e = k

@@ -10,6 +10,7 @@ use borrow.Author.Tests.{ne-eqb, eq-eqb}
 use Rattle.model.specs.declared.Task.{Task}
 use Rattle.model.specs.declared.State.{State}
 use Rattle.model.specs.declared.News.{News}
+use Rattle.model.specs.Row.{firstOf}
 use Rattle.model.specs.Task.{told, rowOf}
 use Rattle.model.specs.State.{task, waiters, moved}
 use Rattle.model.specs.Effect.{toldAll}
@@ -19,7 +20,7 @@ use Rattle.laws.proofs.Number.{same?}
 use Rattle.laws.proofs.Occ.{one-eq, one-ne, occ-cons, occ-none}
 use Rattle.laws.proofs.Padded.{padded-rest, first-none}
 use Rattle.laws.proofs.Record.{row-none}
-use Rattle.kept.proofs.Listed.{key-of, listed-in}
+use Rattle.kept.proofs.Listed.{key-of, key-first, listed-in}
 use Rattle.kept.proofs.Changes.{MayWait, task-in, task-cases, sound-moved}
 use Rattle.kept.proofs.Records.{WaitsAs, Stays, told-stays, told-live, row-live, sound-told}
 
@@ -42,6 +43,17 @@ may-same s k t x e = record {
 pub waiter-in : (s : State) → Sound s → (t : ℕ) → 1 ≤ rowOf (task s t) → (1 ≤ t) × (t ≤ 24)
 waiter-in s k t h = task-in rowOf row-none s k t h
 
+-- who stands first in a row of waiters waits there
+pub first-waits : (s : State) → Sound s → (m : ℕ) → m ≤ 20 → 1 ≤ firstOf (s .waits) m → rowOf (task s (firstOf (s .waits) m)) ≡ m
+first-waits s k m top some = key-first (s .waits) 21 (λ t. rowOf (task s t)) (k .waits) m (omega arith) (λ z. omega arith) .1
+
+-- and where nobody stands first, nobody waits
+pub no-waiter : (s : State) → Sound s → (m : ℕ) → 1 ≤ m → m ≤ 20 → firstOf (s .waits) m ≡ 0 → (t : ℕ) → rowOf (task s t) ≡ m → ⊥
+no-waiter s k m low top e t f =
+    let i = waiter-in s k t (omega arith) .0 in
+    let there : occ t (waiters s m) ≡ 1 = listed-in (s .waits) 21 (λ t. rowOf (task s t)) (k .waits) m t (omega arith) i low f in
+    omega (arith, first-none (waiters s m) (k .waits .ends m (omega arith)) e t i)
+
 -- ---- the queue, from its first to its last
 -- it holds live tasks, and whoever waits in row m and has not been told
 record Queue (w : News) (m : ℕ) (q : List ℕ) (s : State) : Type 0 where
@@ -50,11 +62,10 @@ record Queue (w : News) (m : ℕ) (q : List ℕ) (s : State) : Type 0 where
   lives : (t : ℕ) → 1 ≤ t → 1 ≤ occ t q → (t ≤ 24) × (1 ≤ task s t .active)
   holds : (t : ℕ) → 1 ≤ t → rowOf (task s t) ≡ m → (1 ≤ occ t q) ⊎ Stays w (task s t)
 
--- all have been told; no number changed
-pub record Told (w : News) (m : ℕ) (s s′ : State) : Type 0 where
+-- all have been told
+pub record Told (w : News) (m : ℕ) (s′ : State) : Type 0 where
   pub sound : Sound s′
   pub stays : (t : ℕ) → 1 ≤ t → rowOf (task s′ t) ≡ m → Stays w (task s′ t)
-  pub kept : s′ .numbers ≡ s .numbers
 
 module _ (w : News) (m : ℕ) (some : 1 ≤ m) where
   -- the first is told
@@ -93,23 +104,19 @@ module _ (w : News) (m : ℕ) (some : 1 ≤ m) where
       behind u other (inl there) = inl (omega (arith, occ-cons u t q, one-ne t u (λ e. other (sym e))))
       behind u other (inr stays) = inr stays
 
-  told-all : (q : List ℕ) (s : State) → Queue w m q s → Told w m s (toldAll w q s)
-  unfolding toldAll moved
-  told-all [] s k = record { sound = k .sound; stays = λ t h e. ⊎-elim (λ (there : 1 ≤ occ t []). absurd (omega (arith, occ-none t))) (λ z. z) (k .holds t h e); kept = refl }
+  told-all : (q : List ℕ) (s : State) → Queue w m q s → Told w m (toldAll w q s)
+  unfolding toldAll
+  told-all [] s k = record { sound = k .sound; stays = λ t h e. ⊎-elim (λ (there : 1 ≤ occ t []). absurd (omega (arith, occ-none t))) (λ z. z) (k .holds t h e) }
   told-all (t ∷ q) s k = ⊎-elim
       (λ (e : t ≡ 0). rw (eq-eqb t 0 e) (record {
         sound = k .sound;
         stays = λ u h f. ⊎-elim (λ (there : 1 ≤ occ u (t ∷ q)). absurd (omega (arith, first-none (t ∷ q) (k .ends) e u h))) (λ z. z) (k .holds u h f);
-        kept = refl;
       }))
-      (λ (low : t ≡ 0 → ⊥). rw (ne-eqb t 0 low) (after (told-all q (moved t (told w (task s t)) s) (queue-next t q s low k))))
+      (λ (low : t ≡ 0 → ⊥). rw (ne-eqb t 0 low) (told-all q (moved t (told w (task s t)) s) (queue-next t q s low k)))
       (same? t 0)
-    where
-      after : {z : State} → Told w m (moved t (told w (task s t)) s) z → Told w m s z
-      after r = record { sound = r .sound; stays = r .stays; kept = r .kept }
 
 -- ---- those in row m
-pub told-row : (w : News) (s : State) → Sound s → (m : ℕ) → 1 ≤ m → m ≤ 20 → Told w m s (toldAll w (waiters s m) s)
+pub told-row : (w : News) (s : State) → Sound s → (m : ℕ) → 1 ≤ m → m ≤ 20 → Told w m (toldAll w (waiters s m) s)
 told-row w s k m some top = told-all w m some (waiters s m) s (record {
   sound = k;
   ends = k .waits .ends m (omega arith);

@@ -1,27 +1,26 @@
 // Every call: the plan from the records it looks at, then its effect on the tables. The step stands once, over lent tables,
 // for a caller that knows its state to be sound; `call` takes and gives a state by value, and tests it first.
 ghost use mathlib.Core.Path.{_≡_};
-ghost use Rattle.model.specs.State.{fresh};
-ghost use Rattle.model.specs.Call.{step, call};
-ghost use Rattle.effects.specs.Lent.{before, after};
-ghost use Rattle.kernel.specs.Answer.{answerOf, stepFrom, numbersOf, stateWith};
+ghost use Rattle.model.specs.State.{fresh, running};
+ghost use Rattle.model.specs.Call.{stepFrom, call};
+ghost use Rattle.tables.specs.Lent.{before, after};
+ghost use Rattle.kernel.specs.Answer.{answerOf};
 use model::Answer;
 use model::Call;
 use model::Code;
 use model::Context;
+use model::Numbers;
+use model::Queue;
 use model::State;
-use model::Task;
-use numbers::Numbers;
+use queues::lent::best;
 
 // Nothing created, time 0 and no slices.
 pub fn fresh() -> State
     ensures { λ r. ⌜ r ≡ fresh ⌝ }
 {
-    let none = records::no_task();
-    State {
-        tasks: [none; 25],
-        levels: [0u8; 744],
-        waits: [0u8; 504],
+    let nobody = records::no_task();
+    let empty = Queue { places: [0u8; 24] };
+    let numbers = Numbers {
         slices: [0u32; 31],
         charges: [0u32; 31],
         counts: [0u32; 13],
@@ -29,7 +28,23 @@ pub fn fresh() -> State
         attributes: [0u32; 9],
         bits: [0u32; 9],
         time: 0,
+    };
+    State {
+        tasks: [nobody; 25],
+        levels: [empty; 31],
+        waits: [empty; 21],
+        numbers,
     }
+}
+
+// Who runs in a state: the first task of the best level that is not empty, or 0.
+pub fn running(s: State) -> u8
+    ensures { λ r. ⌜ r ≡ running s ⌝ }
+{
+    let qs = s.levels;
+    let mut levels = [0u8; 744];
+    queues::spread_levels(&mut levels, qs);
+    best(&levels)
 }
 
 // What a step answers, beside the tables it was lent.
@@ -53,15 +68,15 @@ pub fn step_in(
     ensures { λ r. ⌜ answerOf r (after bytes words levels waits numbers) ≡ stepFrom run (before bytes words levels waits numbers) c a ⌝ }
 {
     let named = plans::named(a);
-    let x = effects::semaphore_at(numbers, waits, named);
-    let y = effects::flag_at(numbers, waits, named);
+    let x = effects::semaphore_at(waits, numbers, named);
+    let y = effects::flag_at(waits, numbers, named);
     let k = stored::record_at(bytes, words, plans::subject(a, run, x.first, y.first));
-    let p = plans::plan(c, a, run, k, x, y);
+    let p = plans::plan(plans::is_mine(c, a), a, run, k, x, y);
     let code = p.code;
     let value = p.value;
     let effect = p.effect;
     carry::carry(bytes, words, levels, waits, numbers, run, effect);
-    let running = rows::best(levels);
+    let running = best(levels);
     Stepped {
         code,
         running,
@@ -69,63 +84,33 @@ pub fn step_in(
     }
 }
 
-// A state's numbers, and a state with them.
-fn numbers_of(s: State) -> Numbers
-    ensures { λ r. ⌜ r ≡ numbersOf s ⌝ }
+// Any state: one that is not sound gets UNSOUND and task 0, and comes back as it was.
+pub fn call(s: State, c: Context, a: Call) -> Answer
+    ensures { λ r. ⌜ r ≡ call s c a ⌝ }
 {
-    let slices = s.slices;
-    let charges = s.charges;
-    let counts = s.counts;
-    let maxima = s.maxima;
-    let attributes = s.attributes;
-    let bits = s.bits;
-    Numbers {
-        slices,
-        charges,
-        counts,
-        maxima,
-        attributes,
-        bits,
-        time: s.time,
-    }
-}
-
-fn state_with(tasks: [Task; 25], levels: [u8; 744], waits: [u8; 504], x: Numbers) -> State
-    ensures { λ r. ⌜ r ≡ stateWith tasks levels waits x ⌝ }
-{
-    let slices = x.slices;
-    let charges = x.charges;
-    let counts = x.counts;
-    let maxima = x.maxima;
-    let attributes = x.attributes;
-    let bits = x.bits;
-    State {
-        tasks,
-        levels,
-        waits,
-        slices,
-        charges,
-        counts,
-        maxima,
-        attributes,
-        bits,
-        time: x.time,
-    }
-}
-
-// The step of a whole state.
-pub fn step(s: State, c: Context, a: Call) -> Answer
-    ensures { λ r. ⌜ r ≡ step s c a ⌝ }
-{
-    let tasks = s.tasks;
     let mut bytes = [0u8; 250];
     let mut words = [0u32; 75];
-    stored::spread(&mut bytes, &mut words, tasks);
-    let mut levels = s.levels;
-    let mut waits = s.waits;
+    let mut levels = [0u8; 744];
+    let mut waits = [0u8; 504];
     let mut numbers = [0u32; 107];
-    numbers::spread(&mut numbers, numbers_of(s));
-    let run = rows::best(&levels);
+    tables::spread(
+        &mut bytes,
+        &mut words,
+        &mut levels,
+        &mut waits,
+        &mut numbers,
+        s,
+    );
+    let sound = sound::sound_in(&bytes, &words, &levels, &waits, &numbers);
+    if !sound {
+        return Answer {
+            code: Code::Unsound,
+            running: 0,
+            value: 0,
+            state: s,
+        };
+    }
+    let run = best(&levels);
     let r = step_in(
         &mut bytes,
         &mut words,
@@ -136,30 +121,12 @@ pub fn step(s: State, c: Context, a: Call) -> Answer
         c,
         a,
     );
-    let next = stored::gather(&bytes, &words);
-    let x = numbers::gather(&numbers);
+    let state = tables::gather(&bytes, &words, &levels, &waits, &numbers);
     let code = r.code;
-    let state = state_with(next, levels, waits, x);
     Answer {
         code,
         running: r.running,
         value: r.value,
         state,
-    }
-}
-
-// Any state: one that is not sound gets UNSOUND and task 0, and comes back as it was.
-pub fn call(s: State, c: Context, a: Call) -> Answer
-    ensures { λ r. ⌜ r ≡ call s c a ⌝ }
-{
-    let sound = sound::is_sound(s);
-    if sound {
-        return step(s, c, a);
-    }
-    Answer {
-        code: Code::Unsound,
-        running: 0,
-        value: 0,
-        state: s,
     }
 }

@@ -1,4 +1,5 @@
 pub mod Number
+pub mod Says
 pub mod Row
 pub mod Table
 pub mod Relisted
@@ -7,3 +8,4 @@ pub mod Padded
 pub mod Room
 pub mod Bits
 pub mod Record
+pub mod Waits

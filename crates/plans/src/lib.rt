@@ -1,11 +1,12 @@
-// Every call: which records it looks at, and its plan.
-// Each function is a definition of model/specs/Call, for every value; it rests on plans_task, plans_semaphore and plans_event.
+// Every call: which records it looks at, whether the context is its own, and its plan.
+// Each function is a definition of model/specs/Call or Services, for every value; it rests on plans_task, plans_semaphore and plans_event.
 ghost use mathlib.Core.Path.{_≡_};
+ghost use Rattle.model.specs.declared.Context.the-variants.{I};
 ghost use Rattle.model.specs.Call.{named, subject, plan};
-use checks::in_i;
-use checks::in_t;
+ghost use Rattle.model.specs.Services.{isMine};
 use model::Call;
 use model::Context;
+use model::Event;
 use model::Flag;
 use model::Plan;
 use model::Semaphore;
@@ -13,9 +14,9 @@ use model::Task;
 use plans_event::event_plan;
 use plans_event::event_subject;
 use plans_semaphore::acquire;
-use plans_semaphore::delete::sem_delete;
 use plans_semaphore::polling;
 use plans_semaphore::sem_create;
+use plans_semaphore::sem_delete;
 use plans_semaphore::signal;
 use plans_task::life::activate;
 use plans_task::life::create;
@@ -95,44 +96,81 @@ pub fn subject(a: Call, run: u8, first: u8, head: u8) -> usize
     }
 }
 
-// A call's plan, from who runs, the subject's record, and the semaphore and the flag of the number that it names.
-pub fn plan(c: Context, a: Call, run: u8, k: Task, x: Semaphore, y: Flag) -> Plan
-    ensures { λ r. ⌜ r ≡ plan c a run k x y ⌝ }
+// A service of flags belongs to interrupts.
+fn is_event_inside(service: Event) -> bool
+    ensures { λ r. ⌜ r ≡ isMine I (Call.Event 0 service) ⌝ }
 {
-    let mine_t = in_t(c);
-    let mine_i = in_i(c);
+    match service {
+        Event::Iset { .. } => true,
+        Event::Iclear { .. } => true,
+        Event::Iwait { .. } => true,
+        _ => false,
+    }
+}
+
+// A call belongs to interrupts.
+fn is_inside(a: Call) -> bool
+    ensures { λ r. ⌜ r ≡ isMine I a ⌝ }
+{
+    match a {
+        Call::TaskIactivate { .. } => true,
+        Call::TaskIwakeup { .. } => true,
+        Call::TaskIreleaseWait { .. } => true,
+        Call::TickIntProcessing => true,
+        Call::SemIsignal { .. } => true,
+        Call::SemIpolling { .. } => true,
+        Call::Event { service, .. } => is_event_inside(service),
+        _ => false,
+    }
+}
+
+// The context test: a call comes from the context that its service belongs to.
+pub fn is_mine(c: Context, a: Call) -> bool
+    ensures { λ r. ⌜ r ≡ isMine c a ⌝ }
+{
+    let inside = is_inside(a);
+    match c {
+        Context::T => !inside,
+        Context::I => inside,
+    }
+}
+
+// A call's plan, from whether the context is its own, who runs, the subject's record, and the semaphore and the flag of the number that it names.
+pub fn plan(mine: bool, a: Call, run: u8, k: Task, x: Semaphore, y: Flag) -> Plan
+    ensures { λ r. ⌜ r ≡ plan mine a run k x y ⌝ }
+{
     match a {
         Call::TaskCreate {
             task,
             priority,
             option,
-        } => create(mine_t, task, priority, option, k),
-        Call::TaskDelete { task } => delete(mine_t, task, k),
-        Call::TaskActivate { task } => activate(mine_t, task, k),
-        Call::TaskIactivate { task } => activate(mine_i, task, k),
-        Call::TaskExit => exit(mine_t, run),
-        Call::TaskTerminate { task } => terminate(mine_t, task, run, k),
-        Call::TaskSuspend { task } => suspend(mine_t, task, k),
-        Call::TaskResume { task } => resume(mine_t, task, k),
-        Call::TaskSleep { timeout } => sleep(mine_t, timeout, run, k),
-        Call::TaskWakeup { task } => wakeup(mine_t, task, k),
-        Call::TaskIwakeup { task } => wakeup(mine_i, task, k),
-        Call::TaskReleaseWait { task } => release_wait(mine_t, task, k),
-        Call::TaskIreleaseWait { task } => release_wait(mine_i, task, k),
-        Call::TaskChangePriority { task, priority } => change_priority(mine_t, task, priority, k),
-        Call::SysTsliceTicks { level, slice } => tslice_ticks(mine_t, level, slice),
-        Call::TickIntProcessing => tick(mine_i),
+        } => create(mine, task, priority, option, k),
+        Call::TaskDelete { task } => delete(mine, task, k),
+        Call::TaskActivate { task } => activate(mine, task, k),
+        Call::TaskIactivate { task } => activate(mine, task, k),
+        Call::TaskExit => exit(mine, run),
+        Call::TaskTerminate { task } => terminate(mine, task, run, k),
+        Call::TaskSuspend { task } => suspend(mine, task, k),
+        Call::TaskResume { task } => resume(mine, task, k),
+        Call::TaskSleep { timeout } => sleep(mine, timeout, run, k),
+        Call::TaskWakeup { task } => wakeup(mine, task, k),
+        Call::TaskIwakeup { task } => wakeup(mine, task, k),
+        Call::TaskReleaseWait { task } => release_wait(mine, task, k),
+        Call::TaskIreleaseWait { task } => release_wait(mine, task, k),
+        Call::TaskChangePriority { task, priority } => change_priority(mine, task, priority, k),
+        Call::SysTsliceTicks { level, slice } => tslice_ticks(mine, level, slice),
+        Call::TickIntProcessing => tick(mine),
         Call::SemCreate {
             semaphore,
             start,
             maximum,
-        } => sem_create(mine_t, semaphore, start, maximum, x),
-        Call::SemDelete { semaphore } => sem_delete(mine_t, semaphore, x),
-        Call::SemSignal { semaphore } => signal(mine_t, semaphore, k, x),
-        Call::SemIsignal { semaphore } => signal(mine_i, semaphore, k, x),
-        Call::SemAcquire { semaphore, timeout } => acquire(mine_t, semaphore, timeout, run, k, x),
-        Call::SemPolling { semaphore } => polling(mine_t, semaphore, x),
-        Call::SemIpolling { semaphore } => polling(mine_i, semaphore, x),
-        Call::Event { flag, service } => event_plan(c, flag, service, run, k, y),
+        } => sem_create(mine, semaphore, start, maximum, x),
+        Call::SemDelete { semaphore } => sem_delete(mine, semaphore, x),
+        Call::SemSignal { semaphore } => signal(mine, semaphore, k, x),
+        Call::SemIsignal { semaphore } => signal(mine, semaphore, k, x),
+        Call::SemAcquire { semaphore, timeout } => acquire(mine, semaphore, timeout, run, k, x),
+        Call::SemPolling { semaphore } => polling(mine, semaphore, x),
+        Call::SemIpolling { semaphore } => polling(mine, semaphore, x),
+        Call::Event { flag, service } => event_plan(mine, flag, service, run, k, y),
     }
 }

@@ -5,18 +5,17 @@ ghost use Rattle.model.specs.Flag.{isSingle, withBits, withoutBits, bitsLeft};
 ghost use Rattle.model.specs.Service.{eventCreate, eventDelete, meetsFirst, eventSet, eventClear, isOccupied, taken, eventWait};
 ghost use Rattle.model.specs.Call.{eventSubject, eventPlan};
 use crate::poll::event_poll;
+use checks::Gate;
+use checks::checked;
 use checks::does;
 use checks::flags;
 use checks::gives;
-use checks::in_i;
-use checks::in_t;
 use checks::is_attributes;
 use checks::is_flag;
 use checks::is_timeout;
 use checks::pending;
 use checks::refused;
 use model::Code;
-use model::Context;
 use model::Effect;
 use model::Event;
 use model::Flag;
@@ -24,9 +23,10 @@ use model::News;
 use model::Plan;
 use model::Task;
 use records::is_met;
+use records::on_flag;
 use records::waiting;
 
-pub mod poll;
+mod poll;
 
 // ---- a flag's bits
 // CLR zeroes the bits when a wait or poll is met.
@@ -55,8 +55,8 @@ fn meets_first(bits: u32, k: Task, y: Flag) -> bool
     ensures { λ r. ⌜ r ≡ meetsFirst bits k y ⌝ }
 {
     let first = y.first;
-    let pattern = k.pattern;
-    let mode = k.mode;
+    let pattern = k.wait.pattern;
+    let mode = k.wait.mode;
     if first == 0 {
         return false;
     }
@@ -81,42 +81,28 @@ fn taken(flag: u8, y: Flag) -> Plan
 }
 
 // ---- the services
-pub fn event_create(mine: bool, flag: u32, attributes: u32, bits: u32, y: Flag) -> Plan
+fn event_create(mine: bool, flag: u32, attributes: u32, bits: u32, y: Flag) -> Plan
     ensures { λ r. ⌜ r ≡ eventCreate mine flag attributes bits y ⌝ }
 {
-    let made = y.attributes;
-    let numbered = is_flag(flag);
-    if !numbered {
-        return refused(Code::WrongParam);
-    }
-    let fits = is_attributes(attributes);
-    if !fits {
-        return refused(Code::WrongParam);
-    }
-    if made != 0 {
-        return refused(Code::WrongParam);
-    }
-    if !mine {
-        return refused(Code::WContext);
+    let gate = checked(
+        is_flag(flag) & (is_attributes(attributes) & (y.attributes == 0)),
+        true,
+        mine,
+    );
+    if let Gate::Refuses { code } = gate {
+        return refused(code);
     }
     let f = flag as u8;
     let kept = attributes + 1;
     flags(f, kept, bits)
 }
 
-pub fn event_delete(mine: bool, flag: u32, y: Flag) -> Plan
+fn event_delete(mine: bool, flag: u32, y: Flag) -> Plan
     ensures { λ r. ⌜ r ≡ eventDelete mine flag y ⌝ }
 {
-    let made = y.attributes;
-    let numbered = is_flag(flag);
-    if !numbered {
-        return refused(Code::WrongParam);
-    }
-    if made == 0 {
-        return refused(Code::NoExs);
-    }
-    if !mine {
-        return refused(Code::WContext);
+    let gate = checked(is_flag(flag), y.attributes != 0, mine);
+    if let Gate::Refuses { code } = gate {
+        return refused(code);
     }
     let f = flag as u8;
     does(Effect::Tells {
@@ -128,60 +114,38 @@ pub fn event_delete(mine: bool, flag: u32, y: Flag) -> Plan
 }
 
 // k is the record of the first waiter.
-pub fn event_set(mine: bool, flag: u32, bits: u32, k: Task, y: Flag) -> Plan
+fn event_set(mine: bool, flag: u32, bits: u32, k: Task, y: Flag) -> Plan
     ensures { λ r. ⌜ r ≡ eventSet mine flag bits k y ⌝ }
 {
-    let made = y.attributes;
-    let had = y.bits;
-    let numbered = is_flag(flag);
-    if !numbered {
-        return refused(Code::WrongParam);
-    }
-    if bits == 0 {
-        return refused(Code::WrongParam);
-    }
-    if made == 0 {
-        return refused(Code::NoExs);
-    }
-    if !mine {
-        return refused(Code::WContext);
+    let gate = checked(is_flag(flag) & (bits != 0), y.attributes != 0, mine);
+    if let Gate::Refuses { code } = gate {
+        return refused(code);
     }
     let f = flag as u8;
-    let all = had | bits;
+    let all = y.bits | bits;
     let met = meets_first(all, k, y);
-    let left = bits_left(made, met, all);
+    let left = bits_left(y.attributes, met, all);
     does(Effect::Tells {
         flag: f,
         news: News::Bits { bits: all },
-        attributes: made,
+        attributes: y.attributes,
         bits: left,
     })
 }
 
-pub fn event_clear(mine: bool, flag: u32, bits: u32, y: Flag) -> Plan
+fn event_clear(mine: bool, flag: u32, bits: u32, y: Flag) -> Plan
     ensures { λ r. ⌜ r ≡ eventClear mine flag bits y ⌝ }
 {
-    let made = y.attributes;
-    let had = y.bits;
-    let numbered = is_flag(flag);
-    if !numbered {
-        return refused(Code::WrongParam);
-    }
-    if bits == 0 {
-        return refused(Code::WrongParam);
-    }
-    if made == 0 {
-        return refused(Code::NoExs);
-    }
-    if !mine {
-        return refused(Code::WContext);
+    let gate = checked(is_flag(flag) & (bits != 0), y.attributes != 0, mine);
+    if let Gate::Refuses { code } = gate {
+        return refused(code);
     }
     let f = flag as u8;
-    let left = had & (4294967295 - bits);
-    flags(f, made, left)
+    let left = y.bits & (4294967295 - bits);
+    flags(f, y.attributes, left)
 }
 
-pub fn event_wait(
+fn event_wait(
     mine: bool,
     flag: u32,
     pattern: u32,
@@ -193,26 +157,13 @@ pub fn event_wait(
 ) -> Plan
     ensures { λ r. ⌜ r ≡ eventWait mine flag pattern mode timeout run k y ⌝ }
 {
-    let made = y.attributes;
-    let numbered = is_flag(flag);
-    if !numbered {
-        return refused(Code::WrongParam);
-    }
-    if pattern == 0 {
-        return refused(Code::WrongParam);
-    }
-    if 1 < mode {
-        return refused(Code::WrongParam);
-    }
-    let timed = is_timeout(timeout);
-    if !timed {
-        return refused(Code::WrongParam);
-    }
-    if made == 0 {
-        return refused(Code::NoExs);
-    }
-    if !mine {
-        return refused(Code::WContext);
+    let gate = checked(
+        is_flag(flag) & ((pattern != 0) & ((mode <= 1) & is_timeout(timeout))),
+        y.attributes != 0,
+        mine,
+    );
+    if let Gate::Refuses { code } = gate {
+        return refused(code);
     }
     if run == 0 {
         return refused(Code::WContext);
@@ -227,7 +178,7 @@ pub fn event_wait(
         return taken(f, y);
     }
     let m = mode as u8;
-    pending(run, waiting(k, 3, f, timeout, pattern, m))
+    pending(run, waiting(k, on_flag(f, pattern, m, timeout)))
 }
 
 // ---- the dispatch
@@ -248,24 +199,23 @@ pub fn event_subject(service: Event, run: u8, first: u8) -> u8
     }
 }
 
-pub fn event_plan(c: Context, flag: u32, service: Event, run: u8, k: Task, y: Flag) -> Plan
-    ensures { λ r. ⌜ r ≡ eventPlan c flag service run k y ⌝ }
+// The plan of a service, from whether the context is its own.
+pub fn event_plan(mine: bool, flag: u32, service: Event, run: u8, k: Task, y: Flag) -> Plan
+    ensures { λ r. ⌜ r ≡ eventPlan mine flag service run k y ⌝ }
 {
-    let mine_t = in_t(c);
-    let mine_i = in_i(c);
     match service {
-        Event::Create { attributes, bits } => event_create(mine_t, flag, attributes, bits, y),
-        Event::Delete => event_delete(mine_t, flag, y),
-        Event::Set { bits } => event_set(mine_t, flag, bits, k, y),
-        Event::Iset { bits } => event_set(mine_i, flag, bits, k, y),
-        Event::Clear { bits } => event_clear(mine_t, flag, bits, y),
-        Event::Iclear { bits } => event_clear(mine_i, flag, bits, y),
+        Event::Create { attributes, bits } => event_create(mine, flag, attributes, bits, y),
+        Event::Delete => event_delete(mine, flag, y),
+        Event::Set { bits } => event_set(mine, flag, bits, k, y),
+        Event::Iset { bits } => event_set(mine, flag, bits, k, y),
+        Event::Clear { bits } => event_clear(mine, flag, bits, y),
+        Event::Iclear { bits } => event_clear(mine, flag, bits, y),
         Event::Wait {
             pattern,
             mode,
             timeout,
-        } => event_wait(mine_t, flag, pattern, mode, timeout, run, k, y),
-        Event::WaitPolling { pattern, mode } => event_poll(mine_t, flag, pattern, mode, y),
-        Event::Iwait { pattern, mode } => event_poll(mine_i, flag, pattern, mode, y),
+        } => event_wait(mine, flag, pattern, mode, timeout, run, k, y),
+        Event::WaitPolling { pattern, mode } => event_poll(mine, flag, pattern, mode, y),
+        Event::Iwait { pattern, mode } => event_poll(mine, flag, pattern, mode, y),
     }
 }

@@ -4,6 +4,8 @@ ghost use mathlib.Core.Path.{_≡_};
 ghost use Rattle.model.specs.Service.{eventPoll};
 use crate::is_occupied;
 use crate::taken;
+use checks::Gate;
+use checks::checked;
 use checks::is_flag;
 use checks::refused;
 use model::Code;
@@ -14,26 +16,16 @@ use records::is_met;
 pub fn event_poll(mine: bool, flag: u32, pattern: u32, mode: u32, y: Flag) -> Plan
     ensures { λ r. ⌜ r ≡ eventPoll mine flag pattern mode y ⌝ }
 {
-    let made = y.attributes;
-    let bits = y.bits;
-    let numbered = is_flag(flag);
-    if !numbered {
-        return refused(Code::WrongParam);
-    }
-    if pattern == 0 {
-        return refused(Code::WrongParam);
-    }
-    if 1 < mode {
-        return refused(Code::WrongParam);
-    }
-    if made == 0 {
-        return refused(Code::NoExs);
-    }
-    if !mine {
-        return refused(Code::WContext);
+    let gate = checked(
+        is_flag(flag) & ((pattern != 0) & (mode <= 1)),
+        y.attributes != 0,
+        mine,
+    );
+    if let Gate::Refuses { code } = gate {
+        return refused(code);
     }
     let occupied = is_occupied(y);
-    let met = is_met(pattern, mode, bits);
+    let met = is_met(pattern, mode, y.bits);
     if occupied {
         return refused(Code::IlUse);
     }

@@ -2,6 +2,8 @@
 // Each function is a definition of model/specs/Service, for every value; it rests on checks and records.
 ghost use mathlib.Core.Path.{_≡_};
 ghost use Rattle.model.specs.Service.{create, delete, activate, exit, terminate};
+use checks::Gate;
+use checks::checked;
 use checks::does;
 use checks::is_priority;
 use checks::is_task;
@@ -19,23 +21,13 @@ use records::with_activations;
 pub fn create(mine: bool, task: u32, priority: u32, option: u32, k: Task) -> Plan
     ensures { λ r. ⌜ r ≡ create mine task priority option k ⌝ }
 {
-    let base = k.base;
-    let numbered = is_task(task);
-    if !numbered {
-        return refused(Code::WrongParam);
-    }
-    let ranked = is_priority(priority);
-    if !ranked {
-        return refused(Code::WrongParam);
-    }
-    if 1 < option {
-        return refused(Code::WrongParam);
-    }
-    if base != 0 {
-        return refused(Code::WrongParam);
-    }
-    if !mine {
-        return refused(Code::WContext);
+    let gate = checked(
+        is_task(task) & (is_priority(priority) & ((option <= 1) & (k.base == 0))),
+        true,
+        mine,
+    );
+    if let Gate::Refuses { code } = gate {
+        return refused(code);
     }
     let t = task as u8;
     let p = priority as u8;
@@ -46,19 +38,11 @@ pub fn create(mine: bool, task: u32, priority: u32, option: u32, k: Task) -> Pla
 pub fn delete(mine: bool, task: u32, k: Task) -> Plan
     ensures { λ r. ⌜ r ≡ delete mine task k ⌝ }
 {
-    let base = k.base;
-    let active = k.active;
-    let numbered = is_task(task);
-    if !numbered {
-        return refused(Code::WrongParam);
+    let gate = checked(is_task(task), k.base != 0, mine);
+    if let Gate::Refuses { code } = gate {
+        return refused(code);
     }
-    if base == 0 {
-        return refused(Code::NoExs);
-    }
-    if !mine {
-        return refused(Code::WContext);
-    }
-    if active != 0 {
+    if k.active != 0 {
         return refused(Code::WContext);
     }
     let t = task as u8;
@@ -68,24 +52,15 @@ pub fn delete(mine: bool, task: u32, k: Task) -> Plan
 pub fn activate(mine: bool, task: u32, k: Task) -> Plan
     ensures { λ r. ⌜ r ≡ activate mine task k ⌝ }
 {
-    let base = k.base;
-    let active = k.active;
-    let activations = k.activations;
-    let numbered = is_task(task);
-    if !numbered {
-        return refused(Code::WrongParam);
-    }
-    if base == 0 {
-        return refused(Code::NoExs);
-    }
-    if !mine {
-        return refused(Code::WContext);
+    let gate = checked(is_task(task), k.base != 0, mine);
+    if let Gate::Refuses { code } = gate {
+        return refused(code);
     }
     let t = task as u8;
-    if active == 0 {
+    if k.active == 0 {
         return moves(t, activated(k));
     }
-    if activations != 0 {
+    if k.activations != 0 {
         return refused(Code::Overflow);
     }
     moves(t, with_activations(k, 1))
@@ -94,8 +69,9 @@ pub fn activate(mine: bool, task: u32, k: Task) -> Plan
 pub fn exit(mine: bool, run: u8) -> Plan
     ensures { λ r. ⌜ r ≡ exit mine run ⌝ }
 {
-    if !mine {
-        return refused(Code::WContext);
+    let gate = checked(true, true, mine);
+    if let Gate::Refuses { code } = gate {
+        return refused(code);
     }
     if run == 0 {
         return refused(Code::WContext);
@@ -106,23 +82,15 @@ pub fn exit(mine: bool, run: u8) -> Plan
 pub fn terminate(mine: bool, task: u32, run: u8, k: Task) -> Plan
     ensures { λ r. ⌜ r ≡ terminate mine task run k ⌝ }
 {
-    let base = k.base;
-    let active = k.active;
-    let numbered = is_task(task);
-    if !numbered {
-        return refused(Code::WrongParam);
-    }
-    if base == 0 {
-        return refused(Code::NoExs);
-    }
-    if !mine {
-        return refused(Code::WContext);
+    let gate = checked(is_task(task), k.base != 0, mine);
+    if let Gate::Refuses { code } = gate {
+        return refused(code);
     }
     let t = task as u8;
     if t == run {
         return refused(Code::WContext);
     }
-    if active == 0 {
+    if k.active == 0 {
         return refused(Code::WContext);
     }
     does(Effect::Stops { task: t })

@@ -2,6 +2,8 @@
 // Each function is a definition of model/specs/Service, for every value; it rests on checks and records.
 ghost use mathlib.Core.Path.{_≡_};
 ghost use Rattle.model.specs.Service.{wanted, changePriority, tsliceTicks, tick};
+use checks::Gate;
+use checks::checked;
 use checks::does;
 use checks::is_priority;
 use checks::is_slice;
@@ -14,7 +16,8 @@ use model::Plan;
 use model::Task;
 use records::with_priority;
 
-pub fn wanted(priority: u8, k: Task) -> u8
+// 0 means the priority at creation.
+fn wanted(priority: u8, k: Task) -> u8
     ensures { λ r. ⌜ r ≡ wanted priority k ⌝ }
 {
     if priority == 0 {
@@ -26,29 +29,17 @@ pub fn wanted(priority: u8, k: Task) -> u8
 pub fn change_priority(mine: bool, task: u32, priority: u32, k: Task) -> Plan
     ensures { λ r. ⌜ r ≡ changePriority mine task priority k ⌝ }
 {
-    let base = k.base;
-    let active = k.active;
-    let current = k.priority;
-    let numbered = is_task(task);
-    if !numbered {
-        return refused(Code::WrongParam);
+    let gate = checked(is_task(task) & (priority <= 30), k.base != 0, mine);
+    if let Gate::Refuses { code } = gate {
+        return refused(code);
     }
-    if 30 < priority {
-        return refused(Code::WrongParam);
-    }
-    if base == 0 {
-        return refused(Code::NoExs);
-    }
-    if !mine {
-        return refused(Code::WContext);
-    }
-    if active == 0 {
+    if k.active == 0 {
         return refused(Code::WContext);
     }
     let t = task as u8;
     let p = priority as u8;
     let next = wanted(p, k);
-    if next == current {
+    if next == k.priority {
         return does(Effect::Nothing);
     }
     moves(t, with_priority(k, next))
@@ -57,16 +48,9 @@ pub fn change_priority(mine: bool, task: u32, priority: u32, k: Task) -> Plan
 pub fn tslice_ticks(mine: bool, level: u32, slice: u32) -> Plan
     ensures { λ r. ⌜ r ≡ tsliceTicks mine level slice ⌝ }
 {
-    let ranked = is_priority(level);
-    if !ranked {
-        return refused(Code::WrongParam);
-    }
-    let sliced = is_slice(slice);
-    if !sliced {
-        return refused(Code::WrongParam);
-    }
-    if !mine {
-        return refused(Code::WContext);
+    let gate = checked(is_priority(level) & is_slice(slice), true, mine);
+    if let Gate::Refuses { code } = gate {
+        return refused(code);
     }
     let l = level as u8;
     does(Effect::Slices { level: l, slice })
@@ -75,8 +59,9 @@ pub fn tslice_ticks(mine: bool, level: u32, slice: u32) -> Plan
 pub fn tick(mine: bool) -> Plan
     ensures { λ r. ⌜ r ≡ tick mine ⌝ }
 {
-    if !mine {
-        return refused(Code::WContext);
+    let gate = checked(true, true, mine);
+    if let Gate::Refuses { code } = gate {
+        return refused(code);
     }
     does(Effect::Ticks)
 }

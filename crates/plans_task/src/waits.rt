@@ -2,6 +2,8 @@
 // Each function is a definition of model/specs/Service, for every value; it rests on checks and records.
 ghost use mathlib.Core.Path.{_≡_};
 ghost use Rattle.model.specs.Service.{suspend, resume, sleep, wakeup, releaseWait};
+use checks::Gate;
+use checks::checked;
 use checks::is_task;
 use checks::is_timeout;
 use checks::moves;
@@ -10,6 +12,11 @@ use checks::refused;
 use model::Code;
 use model::Plan;
 use model::Task;
+use records::NOTHING;
+use records::RELEASED;
+use records::SERVED;
+use records::SLEEP;
+use records::asleep;
 use records::ended;
 use records::waiting;
 use records::with_suspended;
@@ -18,23 +25,14 @@ use records::with_wakeups;
 pub fn suspend(mine: bool, task: u32, k: Task) -> Plan
     ensures { λ r. ⌜ r ≡ suspend mine task k ⌝ }
 {
-    let base = k.base;
-    let active = k.active;
-    let suspended = k.suspended;
-    let numbered = is_task(task);
-    if !numbered {
-        return refused(Code::WrongParam);
+    let gate = checked(is_task(task), k.base != 0, mine);
+    if let Gate::Refuses { code } = gate {
+        return refused(code);
     }
-    if base == 0 {
-        return refused(Code::NoExs);
-    }
-    if !mine {
-        return refused(Code::WContext);
-    }
-    if active == 0 {
+    if k.active == 0 {
         return refused(Code::WState);
     }
-    if suspended != 0 {
+    if k.suspended != 0 {
         return refused(Code::Overflow);
     }
     let t = task as u8;
@@ -44,19 +42,11 @@ pub fn suspend(mine: bool, task: u32, k: Task) -> Plan
 pub fn resume(mine: bool, task: u32, k: Task) -> Plan
     ensures { λ r. ⌜ r ≡ resume mine task k ⌝ }
 {
-    let base = k.base;
-    let suspended = k.suspended;
-    let numbered = is_task(task);
-    if !numbered {
-        return refused(Code::WrongParam);
+    let gate = checked(is_task(task), k.base != 0, mine);
+    if let Gate::Refuses { code } = gate {
+        return refused(code);
     }
-    if base == 0 {
-        return refused(Code::NoExs);
-    }
-    if !mine {
-        return refused(Code::WContext);
-    }
-    if suspended == 0 {
+    if k.suspended == 0 {
         return refused(Code::WState);
     }
     let t = task as u8;
@@ -66,19 +56,15 @@ pub fn resume(mine: bool, task: u32, k: Task) -> Plan
 pub fn sleep(mine: bool, timeout: u32, run: u8, k: Task) -> Plan
     ensures { λ r. ⌜ r ≡ sleep mine timeout run k ⌝ }
 {
-    let wakeups = k.wakeups;
-    let timed = is_timeout(timeout);
-    if !timed {
-        return refused(Code::WrongParam);
-    }
-    if !mine {
-        return refused(Code::WContext);
+    let gate = checked(is_timeout(timeout), true, mine);
+    if let Gate::Refuses { code } = gate {
+        return refused(code);
     }
     if run == 0 {
         return refused(Code::WContext);
     }
-    if wakeups == 0 {
-        return pending(run, waiting(k, 1, 0, timeout, 0, 0));
+    if k.wakeups == 0 {
+        return pending(run, waiting(k, asleep(timeout)));
     }
     moves(run, with_wakeups(k, 0))
 }
@@ -86,28 +72,18 @@ pub fn sleep(mine: bool, timeout: u32, run: u8, k: Task) -> Plan
 pub fn wakeup(mine: bool, task: u32, k: Task) -> Plan
     ensures { λ r. ⌜ r ≡ wakeup mine task k ⌝ }
 {
-    let base = k.base;
-    let active = k.active;
-    let wait = k.wait;
-    let wakeups = k.wakeups;
-    let numbered = is_task(task);
-    if !numbered {
-        return refused(Code::WrongParam);
+    let gate = checked(is_task(task), k.base != 0, mine);
+    if let Gate::Refuses { code } = gate {
+        return refused(code);
     }
-    if base == 0 {
-        return refused(Code::NoExs);
-    }
-    if !mine {
-        return refused(Code::WContext);
-    }
-    if active == 0 {
+    if k.active == 0 {
         return refused(Code::WContext);
     }
     let t = task as u8;
-    if wait == 1 {
-        return moves(t, ended(k, 0, 0));
+    if k.wait.kind == SLEEP {
+        return moves(t, ended(k, SERVED, 0));
     }
-    if wakeups != 0 {
+    if k.wakeups != 0 {
         return refused(Code::Overflow);
     }
     moves(t, with_wakeups(k, 1))
@@ -116,21 +92,13 @@ pub fn wakeup(mine: bool, task: u32, k: Task) -> Plan
 pub fn release_wait(mine: bool, task: u32, k: Task) -> Plan
     ensures { λ r. ⌜ r ≡ releaseWait mine task k ⌝ }
 {
-    let base = k.base;
-    let wait = k.wait;
-    let numbered = is_task(task);
-    if !numbered {
-        return refused(Code::WrongParam);
+    let gate = checked(is_task(task), k.base != 0, mine);
+    if let Gate::Refuses { code } = gate {
+        return refused(code);
     }
-    if base == 0 {
-        return refused(Code::NoExs);
-    }
-    if !mine {
-        return refused(Code::WContext);
-    }
-    if wait == 0 {
+    if k.wait.kind == NOTHING {
         return refused(Code::WContext);
     }
     let t = task as u8;
-    moves(t, ended(k, 11, 0))
+    moves(t, ended(k, RELEASED, 0))
 }

@@ -7,22 +7,23 @@ use mathlib.Core.List.{List, [], _∷_, _++_, map, append-nil, append-assoc}
 use native.Mathlib.Numerals.{add-one}
 use native.Mathlib.Nat.{add-zero, zero-add}
 use native.Mathlib.Omega.{arith}
-use lib.ListN.{length, set, take, length-append, length-set, length-map, replicate}
+use lib.ListN.{length, set, take, drop, length-append, length-set, length-map, replicate}
 use lib.Seq.{take-suc-set}
 use Rattle.model.specs.declared.State.{State}
-use Rattle.model.specs.State.{fresh}
-use Rattle.model.specs.Call.{step}
+use Rattle.model.specs.declared.Context.{Context}
+use Rattle.model.specs.declared.Call.{Call}
+use Rattle.model.specs.Call.{stepFrom}
 use Rattle.kernel.specs.declared.Stepped.{Stepped}
-use Rattle.effects.specs.Lent.{stateIn}
+use Rattle.kernel.specs.Answer.{answerOf}
+use Rattle.tables.specs.Lent.{stateIn}
+use Rattle.lines.specs.declared.line.Line.the-variants.{Reads, Unreadable}
 use Rattle.lines.specs.Lines.{lineOf}
-use lib.ListN.{drop}
-use Rattle.walk.specs.declared.Turn.{Turn}
 use Rattle.walk.specs.declared.Turn.the-variants.{Plays, Faults}
-use Rattle.walk.specs.Script.{Script, scriptIn, faultOf}
-use Rattle.walk.specs.Rows.{Row, rowsBy, rowText, rowsText}
-use Rattle.walk.specs.Turn.{turned, turnOf}
+use Rattle.walk.specs.Script.{scriptIn}
+use Rattle.walk.specs.Rows.{Row, rowText, rowsText}
+use Rattle.walk.proofs.Playing.{faulted, played, reaches}
 use Rattle.walk.proofs.Walking as walking
-use Rattle.walk.proofs.Walking.{Walk, rowOf, whole}
+use Rattle.walk.proofs.Walking.{Walk, rowOf}
 use Rattle.runner.specs.declared.Played.{Played}
 use Rattle.runner.specs.Kept.{slotOf, keptText, codesOf, runsOf, Plays as Keeps}
 use Rattle.runner.proofs.Scripts.{row-kept}
@@ -71,38 +72,42 @@ module _ (wide : Bool) (file : List ℕ) (h : ℕ) (cs rs : List ℕ) (at n size
         total = λ _. rw (t, ← z .1) (l .total);
       }
 
-  module _ (more : at < length file) (t : Turn) (s′ : State) (e : turned t s′ ≡ turnOf run at s (lineOf wide (drop at file))) where
-    -- a line that can't be read
-    pub stops : (r : Played) → t ≡ Faults → r .fault ≡ n + 2 → Keeps r (scriptIn wide h file 2)
-    stops r f g =
-        let z = walking.stops wide file h (l .rows) at n run s (l .walk) more t s′ e f in
-        record {
-          fault = g ∙ z;
-          count = λ y. absurd (omega arith);
-          codes = λ y. absurd (omega arith);
-          runs = λ y. absurd (omega arith);
-          total = λ y. absurd (omega arith);
-        }
+  -- a line that can't be read
+  pub stops : at < length file → lineOf wide (drop at file) ≡ Unreadable → (r : Played) → r .fault ≡ n + 2 → Keeps r (scriptIn wide h file 2)
+  stops more g r f =
+      let z = walking.stops wide file h (l .rows) at n run s (l .walk) more Faults s (faulted run at s (lineOf wide (drop at file)) g) refl in
+      record {
+        fault = f ∙ z;
+        count = λ y. absurd (omega arith);
+        codes = λ y. absurd (omega arith);
+        runs = λ y. absurd (omega arith);
+        total = λ y. absurd (omega arith);
+      }
 
-    -- a line that can
-    module _ (r : Stepped) (to : ℕ) (f : t ≡ Plays r to) where
-      pub keeps : (n < 4096) × (at < to) × (to ≤ length file)
-      keeps =
-          let z = walking.on wide file h (l .rows) at n run s (l .walk) more t s′ e r to f in
-          (omega (arith, l .walk .behind, l .walk .inside), z .0, z .1 .inside)
+  -- a line that can, and its step
+  module _ (more : at < length file) (x : Context) (c : Call) (m : ℕ) (g : lineOf wide (drop at file) ≡ Reads x c m) where
+    -- it ends within the file
+    pub within : at + m ≤ length file
+    within = reaches wide file at x c m (omega arith) g
+
+    module _ (r : Stepped) (s′ : State) (i : answerOf r s′ ≡ stepFrom run s x c) where
+      onward : (at < at + m) × Walk wide file h (l .rows ++ (rowOf r ∷ [])) (at + m) (n + 1) (r .running) s′
+      onward = walking.on wide file h (l .rows) at n run s (l .walk) more (Plays r (at + m)) s′ (played run at s (lineOf wide (drop at file)) x c m r s′ g i) r (at + m) refl
+
+      pub keeps : (n < 4096) × (at < at + m)
+      keeps = (omega (arith, l .walk .behind, l .walk .inside), onward .0)
 
       pub turns : (v k : ℕ) → v ≡ slotOf (r .code) → (k ≡ length (keptText (n + 1) v (r .running))) × (k ≤ 20)
-          → Left wide file h (set cs n v) (set rs n (r .running)) to (n + 1) (size + k) (r .running) s′
-      turns v k g w =
-          let z = walking.on wide file h (l .rows) at n run s (l .walk) more t s′ e r to f in
-          let m : 1 + length (l .rows) ≡ n + 1 = omega (arith, l .walk .many) in
+          → Left wide file h (set cs n v) (set rs n (r .running)) (at + m) (n + 1) (size + k) (r .running) s′
+      turns v k f w =
+          let e : 1 + length (l .rows) ≡ n + 1 = omega (arith, l .walk .many) in
           record {
             rows = l .rows ++ (rowOf r ∷ []);
-            walk = z .1;
+            walk = onward .1;
             short = omega (arith, l .short, w .1);
             codes# = length-set cs n v ∙ l .codes#;
             runs# = length-set rs n (r .running) ∙ l .runs#;
-            codes = kept-on cs n v _ _ (omega (arith, l .codes#, keeps .0)) (l .codes) (rw g (map-snoc (λ (x : Row). slotOf (x .code)) (l .rows) (rowOf r)));
-            runs = kept-on rs n (r .running) _ _ (omega (arith, l .runs#, keeps .0)) (l .runs) (map-snoc (λ (x : Row). x .running) (l .rows) (rowOf r));
-            total = omega (arith, l .total, w .0, length-snoc 1 (l .rows) (rowOf r), ap (λ (j : ℕ). length (rowText j (rowOf r))) m, ap length (row-kept (n + 1) (rowOf r)), ap (λ (u : ℕ). length (keptText (n + 1) u (r .running))) g);
+            codes = kept-on cs n v _ _ (omega (arith, l .codes#, keeps .0)) (l .codes) (rw f (map-snoc (λ (y : Row). slotOf (y .code)) (l .rows) (rowOf r)));
+            runs = kept-on rs n (r .running) _ _ (omega (arith, l .runs#, keeps .0)) (l .runs) (map-snoc (λ (y : Row). y .running) (l .rows) (rowOf r));
+            total = omega (arith, l .total, w .0, length-snoc 1 (l .rows) (rowOf r), ap (λ (j : ℕ). length (rowText j (rowOf r))) e, ap length (row-kept (n + 1) (rowOf r)), ap (λ (u : ℕ). length (keptText (n + 1) u (r .running))) f);
           }

@@ -10,13 +10,13 @@ ghost use Rattle.walk.specs.Script.{scriptIn};
 ghost use Rattle.runner.specs.Kept.{slotOf, slotText, keptText, Plays, keptRows};
 ghost use Rattle.runner.specs.Outcome.{ranOf, numberOf, bufferOf, Small};
 use lines::line::Header;
+use lines::line::Line;
 use lines::line::read_header;
+use lines::line::read_line;
 use model::Code;
 use text::decimals::put_number;
 use text::decimals::width;
 use text::words::put_text;
-use walk::Turn;
-use walk::play_line;
 
 // What became of a file: the bytes written, or why it was refused.
 pub enum Ran {
@@ -112,17 +112,12 @@ fn play(file: &[u8], wide: bool, h: usize) -> Played
     let mut numbers = [0u32; 107];
     let mut run: u8 = 0;
     while at < file.len() {
-        let Turn::Plays { answer, next } = play_line(
-            &mut bytes,
-            &mut words,
-            &mut levels,
-            &mut waits,
-            &mut numbers,
-            run,
-            file,
-            wide,
-            at,
-        ) else {
+        let Line::Reads {
+            context,
+            call,
+            next,
+        } = read_line(&file[at..], wide)
+        else {
             return Played {
                 fault: n + 2,
                 count: n,
@@ -131,6 +126,16 @@ fn play(file: &[u8], wide: bool, h: usize) -> Played
                 runs,
             };
         };
+        let answer = kernel::step_in(
+            &mut bytes,
+            &mut words,
+            &mut levels,
+            &mut waits,
+            &mut numbers,
+            run,
+            context,
+            call,
+        );
         let code = answer.code;
         let running = answer.running;
         run = running;
@@ -139,7 +144,7 @@ fn play(file: &[u8], wide: bool, h: usize) -> Played
         runs[n] = running;
         n = n + 1;
         total = total + row_width(n as u32, v, running);
-        at = next;
+        at = at + next;
     }
     Played {
         fault: 0,

@@ -1,4 +1,3 @@
-pub mod Says
 pub mod Numbers
 pub mod Records
 pub mod Listed

@@ -18,7 +18,7 @@ use Rattle.laws.proofs.Number.{same?, below?}
 use Rattle.laws.proofs.Occ.{one-le, one-eq, one-ne, first-in}
 use Rattle.laws.proofs.Padded.{occ-zeros, first-none, second-none, second-some}
 use Rattle.laws.proofs.Table.{row-past}
-use Rattle.tested.proofs.Says.{Says, says-as, says-eq, says-not, says-and, says-or, says-below, everywhere}
+use Rattle.laws.proofs.Says.{Says, says-as, says-eq, says-not, says-and, says-or, says-below, everywhere}
 
 -- ---- one row
 -- whoever stands there passes, and places past the end hold 0

@@ -9,7 +9,7 @@ use Rattle.model.specs.declared.Wait.{Wait}
 use Rattle.model.specs.Flag.{areKept, isSingle, isMet}
 use Rattle.model.specs.Task.{aFlag}
 use Rattle.model.specs.Test.{isRateSound, isCountSound, isFlagSound, isUnmet}
-use Rattle.tested.proofs.Says.{Says, says-same, says-false, says-eq, says-le, says-lt, says-not, says-and, says-or, says-implies}
+use Rattle.laws.proofs.Says.{Says, says-same, says-false, says-eq, says-le, says-lt, says-not, says-and, says-or, says-implies}
 
 abbrev pub Rate : ℕ → ℕ → Type 0
 Rate v n = (v ≤ 1000) × ((n < v) ⊎ ((v ≡ 0) × (n ≡ 0)))

@@ -14,7 +14,8 @@ use Rattle.model.specs.Test.{isNoWait, isBlank, isWaitCode, isResting, isWaitSo
 use Rattle.model.specs.Sound.{SoundTask}
 use Rattle.laws.proofs.Number.{same?}
 use Rattle.laws.proofs.Record.{sound-none}
-use Rattle.tested.proofs.Says.{Says, says-as, says-same, says-eq, says-le, says-not, says-and, says-implies, says-cond, says-within}
+use Rattle.laws.proofs.Waits.{SoundAsk, WaitOf, Resting, wait-of, ask-of, sound-of}
+use Rattle.laws.proofs.Says.{Says, says-as, says-same, says-eq, says-le, says-not, says-and, says-implies, says-cond, says-within}
 
 -- ---- all zeros
 blank : (base priority active suspended wakeups activations code : ℕ) (wait : Wait) (handed : ℕ)
@@ -47,22 +48,11 @@ says-blank x = record {
     zeros = says-and says-eq (says-and says-eq (says-and says-eq (says-and says-eq (says-and says-eq (says-and says-eq (says-and says-eq (says-and (says-no-wait (x .wait)) says-eq)))))))
 
 -- ---- one that is dormant, and what one waits for
-abbrev Resting : Task → Type 0
-Resting x = (x .wait .kind ≡ nothing) × (x .suspended ≡ 0) × (x .wakeups ≡ 0) × (x .activations ≡ 0) × (x .code ≡ 0) × (x .handed ≡ 0) × (x .priority ≡ x .base)
-
 says-resting : (x : Task) → Says (isResting x) (Resting x)
 says-resting x = says-as
     (λ p. let q = p .1 .1 .1 .1 in (p .0, p .1 .0, p .1 .1 .0, p .1 .1 .1 .0, q .0, q .1 .0, q .1 .1))
     (λ p. (p .0, (p .1, (p .2, (p .3, (p .4, (p .5, p .6)))))))
     (says-and says-eq (says-and says-eq (says-and says-eq (says-and says-eq (says-and says-eq (says-and says-eq says-eq))))))
-
-record WaitSound (x : Task) : Type 0 where
-  wait : (x .wait .kind ≡ nothing) ⊎ ((x .wait .kind ≡ aSleep) ⊎ ((x .wait .kind ≡ aSemaphore) ⊎ (x .wait .kind ≡ aFlag)))
-  waiting : (x .wait .kind ≡ nothing → ⊥) → (1 ≤ x .wait .remaining) × (x .code ≡ 0) × (x .handed ≡ 0)
-  free : x .wait .kind ≡ nothing → (x .wait .remaining ≡ 0) × (x .wait .object ≡ 0)
-  sleeper : x .wait .kind ≡ aSleep → (x .wakeups ≡ 0) × (x .wait .object ≡ 0)
-  object : x .wait .kind ≡ aSemaphore → (1 ≤ x .wait .object) × (x .wait .object ≤ 12)
-  flag : x .wait .kind ≡ aFlag → (1 ≤ x .wait .object) × (x .wait .object ≤ 8)
 
 -- what the test says of a wait's object, in its own order
 abbrev Object : Task → Type 0
@@ -73,7 +63,7 @@ Object x =
 says-object : (x : Task) → Says (cond (eqb (x .wait .kind) aSleep) (eqb (x .wait .object) 0 && eqb (x .wakeups) 0) (cond (eqb (x .wait .kind) aSemaphore) (isSemaphore (x .wait .object)) (eqb (x .wait .kind) aFlag && isFlag (x .wait .object)))) (Object x)
 says-object x = says-cond says-eq (says-and says-eq says-eq) (says-cond says-eq says-within (says-and says-eq says-within))
 
-says-wait : (x : Task) → Says (isWaitSound x) (WaitSound x)
+says-wait : (x : Task) → Says (isWaitSound x) (WaitOf x)
 says-wait x = says-as
     (λ p. let on : (x .wait .kind ≡ nothing → ⊥) → Object x = λ n. p .1 n .1 .1 .1 in record {
       wait = ⊎-elim (λ (e : x .wait .kind ≡ nothing). inl e) (λ (n : x .wait .kind ≡ nothing → ⊥). inr (waits (on n))) (same? (x .wait .kind) nothing);
@@ -116,11 +106,7 @@ says-wait x = says-as
     last n d c (inr (inr (inr e))) = e
 
 -- what a flag wait asks for
-record AskSound (w : Wait) : Type 0 where
-  asks : w .kind ≡ aFlag → (1 ≤ w .pattern) × (w .mode ≤ 1)
-  silent : (w .kind ≡ aFlag → ⊥) → (w .pattern ≡ 0) × (w .mode ≡ 0)
-
-says-ask : (w : Wait) → Says (isAskSound w) (AskSound w)
+says-ask : (w : Wait) → Says (isAskSound w) (SoundAsk w)
 says-ask w = says-as
     (λ p. record { asks = λ e. let q = p .0 e in (some (q .0), q .1); silent = p .1 })
     (λ h. (λ e. (λ z. omega (arith, h .asks e), h .asks e .1), h .silent))
@@ -134,39 +120,17 @@ says-ask w = says-as
 abbrev Made : Task → Type 0
 Made x =
     ((1 ≤ x .base) × (x .base ≤ 30)) × (((1 ≤ x .priority) × (x .priority ≤ 30)) × ((x .active ≤ 1) × ((x .suspended ≤ 1) × ((x .wakeups ≤ 1)
-    × ((x .activations ≤ 1) × (T (isWaitCode (x .code)) × ((x .active ≡ 0 → Resting x) × (WaitSound x × AskSound (x .wait)))))))))
+    × ((x .activations ≤ 1) × (T (isWaitCode (x .code)) × ((x .active ≡ 0 → Resting x) × (WaitOf x × SoundAsk (x .wait)))))))))
 
 made-sound : (x : Task) → Made x → SoundTask x
 made-sound x p =
     let q = p .1 .1 .1 .1 in
-    let w = q .1 .1 .1 .1 .0 in
-    let a = q .1 .1 .1 .1 .1 in
-    record {
-      blank = λ e. absurd (omega arith);
-      base = p .0 .1;
-      priority = λ h. p .1 .0;
-      active = p .1 .1 .0;
-      suspended = p .1 .1 .1 .0;
-      wakeups = q .0;
-      activations = q .1 .0;
-      code = q .1 .1 .0;
-      dormant = q .1 .1 .1 .0;
-      wait = w .wait;
-      waiting = w .waiting;
-      free = w .free;
-      sleeper = w .sleeper;
-      object = w .object;
-      flag = w .flag;
-      asks = a .asks;
-      silent = a .silent;
-    }
+    sound-of x (p .0) (p .1 .0) (p .1 .1 .0) (p .1 .1 .1 .0) (q .0) (q .1 .0) (q .1 .1 .0) (q .1 .1 .1 .0) (q .1 .1 .1 .1 .0) (q .1 .1 .1 .1 .1)
 
 sound-made : (x : Task) → SoundTask x → (x .base ≡ 0 → ⊥) → Made x
 sound-made x h n =
-    let wait-sound : WaitSound x = record { wait = h .wait; waiting = h .waiting; free = h .free; sleeper = h .sleeper; object = h .object; flag = h .flag } in
-    let ask-sound : AskSound (x .wait) = record { asks = h .asks; silent = h .silent } in
     let some : 1 ≤ x .base = omega arith in
-    ((some, h .base), (h .priority some, (h .active, (h .suspended, (h .wakeups, (h .activations, (h .code, (h .dormant, (wait-sound, ask-sound)))))))))
+    ((some, h .base), (h .priority some, (h .active, (h .suspended, (h .wakeups, (h .activations, (h .code, (h .dormant, (wait-of x h, ask-of x h)))))))))
 
 pub says-task : (x : Task) → Says (isTaskSound x) (SoundTask x)
 unfolding isTaskSound

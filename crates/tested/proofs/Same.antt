@@ -16,7 +16,7 @@ use Rattle.model.specs.Test.{listsExactly, isTaskSound, isRateSound, isCountSou
 use Rattle.model.specs.Sound.{Lists, SoundTask, Sound}
 use Rattle.laws.proofs.Number.{same?}
 use Rattle.laws.proofs.Record.{sound-none, row-none, row-most, flag-row, flag-none, row-flag, flag-waits}
-use Rattle.tested.proofs.Says.{Says, says-as, says-same, says-eq, says-and, says-below, everywhere}
+use Rattle.laws.proofs.Says.{Says, says-as, says-same, says-eq, says-and, says-below, everywhere}
 use Rattle.tested.proofs.Numbers.{Rate, Counted, Flagged, Unmet, says-rate, says-count, says-flag, says-unmet}
 use Rattle.tested.proofs.Records.{says-blank, says-task, level-none, level-most}
 use Rattle.tested.proofs.Listed.{Queues, Listed, says-queues, lists-of-test, test-of-lists, first-listed, listed-first, second-alone, alone-second}

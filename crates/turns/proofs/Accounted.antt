@@ -1,7 +1,7 @@
 -- Part C of specs/Statements: every resource is accounted for, whatever is called, by `step` as by the checked `call`.
--- It goes by the ways of the plans (Ways), the numbers that moves leave alone (Numbers) and who is served at a release (Handed).
-use mathlib.Core.Path.{_≡_, refl, sym, ap, _∙_}
-use mathlib.Core.Bool.{Bool, true, false, cond}
+-- It goes by the ways of ways, the numbers that moves leave alone (Numbers) and who is served at a release (Handed).
+use mathlib.Core.Path.{_≡_, refl, sym, ap}
+use mathlib.Core.Bool.{false, cond}
 use mathlib.Core.List.{List, [], _∷_}
 use mathlib.Core.Logic.{_⊎_, inl, inr}
 use Prim.Native.Nat.{ℕ, _+_, _-_, _≤_, _%_, _^_}
@@ -11,32 +11,37 @@ use lib.IntN.{ℤ, pos, negsuc}
 use lib.ListN.{getD, set}
 use lib.Seq.{getD-set-same, getD-set-other}
 use borrow.Author.Tests.{eq-eqb, ne-eqb}
+use Rattle.model.specs.declared.Task.{Task}
 use Rattle.model.specs.declared.State.{State}
 use Rattle.model.specs.declared.Plan.{Plan}
+use Rattle.model.specs.declared.Effect.{Effect}
+use Rattle.model.specs.declared.Code.{Code}
 use Rattle.model.specs.declared.News.the-variants.{Deleted}
 use Rattle.model.specs.declared.Context.{Context}
 use Rattle.model.specs.declared.Call.{Call}
 use Rattle.model.specs.Row.{firstOf}
 use Rattle.model.specs.Flag.{flagRow}
-use Rattle.model.specs.Task.{served, released, ended}
-use Rattle.model.specs.State.{fresh, task, count, maximum, waiters, running, moved, counted, flagged, sliced, withTime}
+use Rattle.model.specs.Task.{served, released, waiting, ended}
+use Rattle.model.specs.State.{fresh, task, count, time, maximum, waiters, running, moved, counted, flagged, sliced, withTime}
 use Rattle.model.specs.Code.{number, isNegative}
-use Rattle.model.specs.Effect.{toldAll, deleted, toldFlag, charged, lapsed, ticked, carried}
+use Rattle.model.specs.Effect.{stopped, toldAll, deleted, toldFlag, charged, ticked, carried}
 use Rattle.model.specs.Call.{step, call}
 use Rattle.model.specs.Sound.{Sound}
 use Rattle.laws.proofs.Number.{same?}
 use Rattle.kept.proofs.Fresh.{reads}
-use Rattle.kept.proofs.Records.{none-of}
+use Rattle.ways.proofs.Tests.{none-of}
 use Rattle.kept.proofs.Kept.{fresh-is-sound, sound-stays-sound}
 use Rattle.tested.proofs.Same.{sound-exactly}
-use Rattle.turns.specs.Kind.{Kind}
-use Rattle.turns.specs.Tally as Tallies
-use Rattle.turns.specs.Tally.{reachedBy, Entry, none, isZero, waitsEnded, Tally, begun, noTally, withRelease, withAtOnce, withPolled, entered, tallied, tally}
+use Rattle.ways.specs.Kind.{Kind}
+use Rattle.ways.specs.Entry as Entries
+use Rattle.ways.specs.Entry.{Entry}
+use Rattle.turns.specs.Tally.{reachedBy, isZero, waitsEnded, Tally, begun, noTally, withRelease, withAtOnce, withPolled, entered, tallied, tally}
 use Rattle.turns.specs.Statements.{Balanced, EveryResource, NoneWithout}
-use Rattle.turns.proofs.Ways as Ways
-use Rattle.turns.proofs.Ways.{Made, Takes, atOnce, byPoll, Way, way}
+use Rattle.ways.proofs.Done.{Made, Takes, atOnce, byPoll, Done, Way, refuses, accepts}
+use Rattle.ways.proofs.Done.{Done as Ways}
+use Rattle.ways.proofs.Ways.{way}
 use Rattle.turns.proofs.Still.{tasks-charged}
-use Rattle.turns.proofs.Numbers.{Numbers, numbers-moved, numbers-stopped, numbers-told, numbers-lapsed}
+use Rattle.kept.proofs.Moved.{numbers-moved, numbers-stopped, numbers-told, numbers-lapsed}
 use Rattle.turns.proofs.Handed.{one-is-served, nobody-is-served}
 
 -- what the theorem keeps from call to call, of a semaphore with count c and maximum v: its account is even, and none is kept of one
@@ -54,28 +59,26 @@ refused-not : (z : ℤ) → T (isNegative z) → isZero z ≡ false
 refused-not (pos n) h = absurd h
 refused-not (negsuc n) h = refl
 
--- nor is anything entered where only an answer of 0 would be
-not-entered : (b : Bool) (m : ℕ) (e : Entry) (h : ℕ) (t : Tally) → (T b → e ≡ none) → cond b (entered m e h t) t ≡ t
-not-entered true m e h t silent = rw (silent tt)
-not-entered false m e h t silent = refl
-
 -- ---- one call
 module _ (s : State) (k : Sound s) (m : ℕ) (t : Tally) (a : Kept s m t) where
   -- where the numbers stay, what is kept stays
-  stays : (z : State) → z .counts ≡ s .counts → z .maxima ≡ s .maxima → {u : Tally} → Kept s m u → Kept z m u
+  stays : (z : State) → z .numbers .counts ≡ s .numbers .counts → z .numbers .maxima ≡ s .numbers .maxima → {u : Tally} → Kept s m u → Kept z m u
   stays z c v b = rw (c, v) b
 
-  numbers : {z : State} → Numbers s z → Kept z m t
-  numbers {z} e = stays z (e .counts) (e .maxima) a
+  numbers : (z : State) → z .numbers ≡ s .numbers → {u : Tally} → Kept s m u → Kept z m u
+  numbers z e b = rw e b
+
+  moving : (u : ℕ) (x : Task) → Kept (moved u x s) m t
+  moving u x = numbers (moved u x s) (numbers-moved s u x) a
 
   -- semaphore n gets count c and maximum v, and if it is m, a tally that fits them
-  counting : (z : State) → z .counts ≡ s .counts → z .maxima ≡ s .maxima → (n c v : ℕ) (u : Tally) → n ≤ 12 → (n ≡ m → Account c v u) → Kept (counted n c v z) m (cond (eqb n m) u t)
+  counting : (z : State) → z .numbers .counts ≡ s .numbers .counts → z .numbers .maxima ≡ s .numbers .maxima → (n c v : ℕ) (u : Tally) → n ≤ 12 → (n ≡ m → Account c v u) → Kept (counted n c v z) m (cond (eqb n m) u t)
   unfolding counted
   counting z e f n c v u top fits = rw (e, f) (go (same? n m))
     where
-      go : (n ≡ m) ⊎ (n ≡ m → ⊥) → Account (getD (set (s .counts) n c) m 0) (getD (set (s .maxima) n v) m 0) (cond (eqb n m) u t)
-      go (inl y) = rw (eq-eqb n m y, ← y, getD-set-same (s .counts) n c 0 (omega (arith, k .counts#)), getD-set-same (s .maxima) n v 0 (omega (arith, k .maxima#))) (fits y)
-      go (inr apart) = rw (ne-eqb n m apart, getD-set-other (s .counts) n m c 0 (λ y. apart (sym y)), getD-set-other (s .maxima) n m v 0 (λ y. apart (sym y))) a
+      go : (n ≡ m) ⊎ (n ≡ m → ⊥) → Account (getD (set (s .numbers .counts) n c) m 0) (getD (set (s .numbers .maxima) n v) m 0) (cond (eqb n m) u t)
+      go (inl y) = rw (eq-eqb n m y, ← y, getD-set-same (s .numbers .counts) n c 0 (omega (arith, k .semaphores .counts#)), getD-set-same (s .numbers .maxima) n v 0 (omega (arith, k .semaphores .maxima#))) (fits y)
+      go (inr apart) = rw (ne-eqb n m apart, getD-set-other (s .numbers .counts) n m c 0 (λ y. apart (sym y)), getD-set-other (s .numbers .maxima) n m v 0 (λ y. apart (sym y))) a
 
   -- the account of m, which exists, is even with another count or tally
   evened : (n : ℕ) → Made s n → (c : ℕ) (u : Tally) → Balanced u c → Account c (maximum s n) u
@@ -85,10 +88,10 @@ module _ (s : State) (k : Sound s) (m : ℕ) (t : Tally) (a : Kept s m t) where
   abbrev handsOver : ℕ → State
   handsOver n = moved (firstOf (s .waits) n) (ended (task s (firstOf (s .waits) n)) served 0) s
 
-  serving : (n : ℕ) → Made s n → 1 ≤ firstOf (s .waits) n → Kept (handsOver n) m (entered m (Tallies.release n) (waitsEnded s (handsOver n) m 24) t)
+  serving : (n : ℕ) → Made s n → 1 ≤ firstOf (s .waits) n → Kept (handsOver n) m (entered m (Entries.release n) (waitsEnded s (handsOver n) m 24) t)
   serving n made some = go (same? n m)
     where
-      kept : Numbers s (handsOver n)
+      kept : handsOver n .numbers ≡ s .numbers
       kept = numbers-moved s (firstOf (s .waits) n) (ended (task s (firstOf (s .waits) n)) served 0)
 
       u : Tally
@@ -97,27 +100,24 @@ module _ (s : State) (k : Sound s) (m : ℕ) (t : Tally) (a : Kept s m t) where
       go : (n ≡ m) ⊎ (n ≡ m → ⊥) → Kept (handsOver n) m (cond (eqb n m) u t)
       go (inl y) =
           let h : waitsEnded s (handsOver n) m 24 ≡ 1 = rw (← y) (one-is-served s k n (made .low) (made .top) some) in
-          rw (eq-eqb n m y) (stays (handsOver n) (kept .counts) (kept .maxima) (rw (← ap (maximum s) y) (evened n made (count s m) u (omega (arith, a .even, h)))))
-      go (inr apart) = rw (ne-eqb n m apart) (numbers kept)
+          rw (eq-eqb n m y) (numbers (handsOver n) kept (rw (← ap (maximum s) y) (evened n made (count s m) u (omega (arith, a .even, h)))))
+      go (inr apart) = rw (ne-eqb n m apart) (numbers (handsOver n) kept a)
 
   ticking : Kept (ticked s) m t
   unfolding ticked
-  ticking = stays (lapsed 24 1 z) (b .counts ∙ c .2) (b .maxima ∙ c .3) a
+  ticking = rw (numbers-lapsed 24 1 z) (stays z (c .2) (c .3) a)
     where
       z : State
-      z = charged (running s) (withTime ((s .time + 1) % 2 ^ 32) s)
+      z = charged (running s) (withTime ((time s + 1) % 2 ^ 32) s)
 
-      b : Numbers z (lapsed 24 1 z)
-      b = numbers-lapsed 24 1 z
-
-      c : (z .tasks ≡ s .tasks) × (z .waits ≡ s .waits) × (z .counts ≡ s .counts) × (z .maxima ≡ s .maxima)
-      c = tasks-charged (withTime ((s .time + 1) % 2 ^ 32) s) (running s)
+      c : (z .tasks ≡ s .tasks) × (z .waits ≡ s .waits) × (z .numbers .counts ≡ s .numbers .counts) × (z .numbers .maxima ≡ s .numbers .maxima)
+      c = tasks-charged (withTime ((time s + 1) % 2 ^ 32) s) (running s)
 
   deleting : (n : ℕ) → n ≤ 12 → Kept (deleted n s) m (cond (eqb n m) noTally t)
   unfolding deleted
   deleting n top =
       let b = numbers-told Deleted (waiters s n) s in
-      counting (toldAll Deleted (waiters s n) s) (b .counts) (b .maxima) n 0 0 noTally top (λ _. record { even = refl; none = λ _. refl })
+      counting (toldAll Deleted (waiters s n) s) (rw b) (rw b) n 0 0 noTally top (λ _. record { even = refl; none = λ _. refl })
 
   -- n has a resource less, and u is t with one more taken
   took : (n : ℕ) → Made s n → 1 ≤ count s n → (u : Tally) → u .start + u .released ≡ t .start + t .released
@@ -128,7 +128,7 @@ module _ (s : State) (k : Sound s) (m : ℕ) (t : Tally) (a : Kept s m t) where
   taking n made left atOnce h = took n made left (withAtOnce t) refl (omega arith)
   taking n made left byPoll h = took n made left (withPolled t) refl (omega arith)
 
-  raising : (n : ℕ) → Made s n → firstOf (s .waits) n ≡ 0 → Kept (counted n (count s n + 1) (maximum s n) s) m (entered m (Tallies.release n) (waitsEnded s (counted n (count s n + 1) (maximum s n) s) m 24) t)
+  raising : (n : ℕ) → Made s n → firstOf (s .waits) n ≡ 0 → Kept (counted n (count s n + 1) (maximum s n) s) m (entered m (Entries.release n) (waitsEnded s (counted n (count s n + 1) (maximum s n) s) m 24) t)
   raising n made free = counting s refl refl n (count s n + 1) (maximum s n) (withRelease t (waitsEnded s z m 24)) (made .top) (λ y.
       let h : waitsEnded s z m 24 ≡ 0 = rw (← y) (nobody-is-served s k n (made .low) (made .top) z free) in
       evened n made (count s n + 1) (withRelease t (waitsEnded s z m 24)) (omega (arith, a .even, ap (count s) y, h)))
@@ -136,23 +136,28 @@ module _ (s : State) (k : Sound s) (m : ℕ) (t : Tally) (a : Kept s m t) where
       z : State
       z = counted n (count s n + 1) (maximum s n) s
 
+  after-done : {j : Kind} {i : Entry} {c : Code} {x : Effect} → Done s j i c x → Kept (carried s x) m (cond (isZero (number c)) (entered m i (waitsEnded s (carried s x) m 24) t) t)
+  unfolding carried ticked sliced flagged toldFlag
+  after-done Ways.ticks = ticking
+  after-done (Ways.exits runs) = numbers (stopped (running s) s) (numbers-stopped s (running s)) a
+  after-done (Ways.terminates u low top made) = numbers (stopped u s) (numbers-stopped s u) a
+  after-done (Ways.forces u low top waits) = moving u (ended (task s u) released 0)
+  after-done (Ways.slices l v low top) = stays (sliced l v s) refl refl a
+  after-done (Ways.serves n made first) = serving n made first
+  after-done (Ways.raises n made free less) = raising n made free
+  after-done (Ways.deletes n made) = deleting n (made .top)
+  after-done Ways.keeps = a
+  after-done (Ways.moves u x n c) = moving u x
+  after-done (Ways.waits w runs b) = moving (running s) (waiting (task s (running s)) w)
+  after-done (Ways.creates n v w low top fits some few free) = counting s refl refl n v w (begun v) top (λ _. record { even = omega arith; none = λ z. absurd (omega arith) })
+  after-done (Ways.takes n made left i) = taking n made left i _
+  after-done (Ways.flags f b c r) = stays (flagged f b c s) refl refl a
+  after-done (Ways.tells f w b c made r) = let z = numbers-told w (waiters s (flagRow f)) s in stays (flagged f b c (toldAll w (waiters s (flagRow f)) s)) (rw z) (rw z) a
+
   after : {j : Kind} {i : Entry} {p : Plan} → Way s j i p → Kept (carried s (p .effect)) m (cond (isZero (number (p .code))) (entered m i (waitsEnded s (carried s (p .effect)) m 24) t) t)
-  unfolding carried sliced flagged toldFlag
-  after (Ways.refuses c n) = rw (refused-not (number c) n) a
-  after Ways.ticks = ticking
-  after (Ways.exits runs) = numbers (numbers-stopped s (running s))
-  after (Ways.terminates u) = numbers (numbers-stopped s u)
-  after (Ways.forces u) = numbers (numbers-moved s u (ended (task s u) released 0))
-  after (Ways.slices l v) = stays (sliced l v s) refl refl a
-  after (Ways.serves n made first) = serving n made first
-  after (Ways.raises n made free) = raising n made free
-  after (Ways.deletes n made) = deleting n (made .top)
-  after Ways.keeps = a
-  after (Ways.creates n v w low top made) = counting s refl refl n v w (begun v) top (λ _. record { even = omega arith; none = λ z. absurd (omega arith) })
-  after (Ways.takes n made left e) = taking n made left e _
-  after (Ways.flags v f b c) = stays (flagged f b c s) refl refl a
-  after (Ways.tells f w b c low top) = let z = numbers-told w (waiters s (flagRow f)) s in stays (flagged f b c (toldAll w (waiters s (flagRow f)) s)) (z .counts) (z .maxima) a
-  after {j} {i} (Ways.moves c u x n silent keeps) = rw (not-entered (isZero (number c)) m i (waitsEnded s (moved u x s) m 24) t silent) (numbers (numbers-moved s u x))
+  unfolding carried
+  after (refuses c n d) = rw (refused-not (number c) n) a
+  after (accepts c v x n d done) = after-done done
 
 -- ---- any calls
 accounts : (m : ℕ) (calls : List (Context × Call)) (s : State) (t : Tally) → Sound s → Kept s m t → Kept (reachedBy step s calls) m (tally step m s calls t)
@@ -168,7 +173,7 @@ pub every-resource : EveryResource step
 every-resource calls m made = from-fresh m calls .even
 
 pub none-without : NoneWithout step
-none-without calls m free = from-fresh m calls .none (none-of (maximum (reachedBy step fresh calls) m) free)
+none-without calls m free = from-fresh m calls .none (none-of (maximum (reachedBy step fresh calls) m) .yields free)
 
 -- ---- the checked call, which answers as `step` does as long as the state is sound
 call-is-step : (s : State) (c : Context) (a : Call) → Sound s → call s c a ≡ step s c a

@@ -1,6 +1,6 @@
 -- A tick's own part: the running task's level is charged, and turned at its slice; so who stands in that level comes one tick nearer.
 -- It rests on `charged` of model/specs/Effect, on who runs (kept) and on where a task stands in a turned row (Places).
-use mathlib.Core.Path.{_≡_, refl, sym, _∙_}
+use mathlib.Core.Path.{_≡_, refl, sym}
 use mathlib.Core.Bool.{Bool, true, false, cond, not, _&&_}
 use mathlib.Core.Logic.{⊎-elim}
 use Prim.Native.Nat.{ℕ, _+_, _≤_, _<_}
@@ -18,8 +18,7 @@ use Rattle.model.specs.Effect.{chargedLevel, charged}
 use Rattle.model.specs.Test.{one, occ}
 use Rattle.model.specs.Sound.{Sound}
 use Rattle.laws.proofs.Number.{same?}
-use Rattle.laws.proofs.Row.{length-turned}
-use Rattle.laws.proofs.Table.{first-row, row-withRow-same, row-withRow-other}
+use Rattle.laws.proofs.Table.{row-withRow-same, row-withRow-other}
 use Rattle.kept.specs.Statements.{Runs, nobody, stands}
 use Rattle.kept.proofs.Listed.{key-first, listed-in}
 use Rattle.kept.proofs.Changes.{task-in}
@@ -48,16 +47,16 @@ module _ (s : State) (k : Sound s) (l t : ℕ) (h : 1 ≤ l) (e : levelOf (task 
   charged-own some behind = rw (ne-eqb (slice s l) 0 (λ z. omega arith)) (go (ltb (charge s l + 1) (slice s l)))
     where
       set-charge : (n : ℕ) → charge (withCharge l n s) l ≡ n
-      set-charge n = getD-set-same (s .charges) l n 0 (omega (arith, top, k .charges#))
+      set-charge n = getD-set-same (s .numbers .charges) l n 0 (omega (arith, top, k .rates .charges#))
 
       below : charge s l < slice s l
-      below = ⊎-elim (λ c. c) (λ c. absurd (omega arith)) (k .charges l)
+      below = ⊎-elim (λ c. c) (λ c. absurd (omega arith)) (k .rates .charges l)
 
       go : (b : Bool) → Nearer l t s (cond b (withCharge l (charge s l + 1) s) (rotated l (withCharge l 0 s))) 1
       go true = record { steady = refl; falls = rw (set-charge (charge s l + 1)) (omega arith) }
       go false = unfold rotated in record {
         steady = refl;
-        falls = rw (set-charge 0, row-withRow-same (s .levels) l (turned (level s l)) (length-turned (level s l)))
+        falls = rw (set-charge 0, row-withRow-same (s .levels) l (turned (level s l)) (omega (arith, top, k .levels .sized)))
             (omega (arith, below, mul-le-mul-right (slice s l) (place-turned (level s l) t low (omega (arith, listed)) (λ z. omega (arith, first-place (level s l) t z)))));
       }
 
@@ -67,14 +66,14 @@ module _ (s : State) (k : Sound s) (l t : ℕ) (h : 1 ≤ l) (e : levelOf (task 
   charged-other j other = go (eqb (slice s j) 0) (ltb (charge s j + 1) (slice s j))
     where
       kept : (n : ℕ) → charge (withCharge j n s) l ≡ charge s l
-      kept n = getD-set-other (s .charges) j l n 0 (λ z. other (sym z))
+      kept n = getD-set-other (s .numbers .charges) j l n 0 (λ z. other (sym z))
 
       go : (a b : Bool) → Nearer l t s (cond a s (cond b (withCharge j (charge s j + 1) s) (rotated j (withCharge j 0 s)))) 0
       go true b = record { steady = refl; falls = omega arith }
       go false true = record { steady = refl; falls = rw (kept (charge s j + 1)) (omega arith) }
       go false false = record {
         steady = refl;
-        falls = rw (kept 0, row-withRow-other (s .levels) j (turned (level s j)) (length-turned (level s j)) l (λ z. other (sym z))) (omega arith);
+        falls = rw (kept 0, row-withRow-other (s .levels) j (turned (level s j)) l (λ z. other (sym z))) (omega arith);
       }
 
   -- who runs is first of the level of its priority
@@ -91,7 +90,7 @@ module _ (s : State) (k : Sound s) (l t : ℕ) (h : 1 ≤ l) (e : levelOf (task 
   pub runs-not : 1 ≤ place (level s l) t → running s ≡ t → ⊥
   runs-not behind z =
       let f : firstOf (s .levels) l ≡ t = rw (z, e) at (runs (runs-first s k) (λ y. omega (arith, low)) .1) in
-      omega (arith, first-place (level s l) t (sym (first-row (s .levels) l) ∙ f))
+      omega (arith, first-place (level s l) t f)
 
   pub nearer-charged : 1 ≤ slice s l → 1 ≤ place (level s l) t
       → Nearer l t s (charged (running s) s) (one (eqb (levelOf (task s (running s))) l && not (eqb (slice s l) 0)))
@@ -105,7 +104,7 @@ module _ (s : State) (k : Sound s) (l t : ℕ) (h : 1 ≤ l) (e : levelOf (task 
       d = one (eqb (levelOf (task s (running s))) l && not (eqb (slice s l) 0))
 
       idle : running s ≡ 0 → Nearer l t s s d
-      idle z = rw (z, k .origin .0, level-none, ne-eqb 0 l (λ y. omega arith)) (record { steady = refl; falls = omega arith })
+      idle z = rw (z, k .nobody, level-none, ne-eqb 0 l (λ y. omega arith)) (record { steady = refl; falls = omega arith })
 
       someone : levelOf (task s (running s)) ≡ task s (running s) .priority → Nearer l t s (chargedLevel (task s (running s) .priority) s) d
       someone f = rw f (⊎-elim

@@ -20,8 +20,8 @@ use Rattle.laws.proofs.Number.{same?}
 use Rattle.laws.proofs.Occ.{one-ne, occ-none, occ-cons}
 use Rattle.laws.proofs.Padded.{padded-rest, first-none}
 use Rattle.laws.proofs.Record.{row-waits}
+use Rattle.kept.proofs.Moved.{task-kept, task-moved, tasks-moved}
 use Rattle.turns.specs.Statements.{Ended}
-use Rattle.turns.proofs.Still.{task-kept, task-moved, tasks-moved}
 
 -- ---- a tick
 lapsed-past : (n i : ℕ) (s : State) (t : ℕ) → t < i → task (lapsed n i s) t ≡ task s t
@@ -40,29 +40,29 @@ lapsed-at (suc n) i s t long low top = ⊎-elim
     (same? i t)
 
 -- who waits on a semaphore or a flag waits on, or has run out of time
-pub aged-waits : (x : Task) (m : ℕ) → 1 ≤ m → rowOf x ≡ m → (rowOf (aged x) ≡ m) ⊎ ((aged x .wait ≡ nothing) × (aged x .code ≡ timeout))
+pub aged-waits : (x : Task) (m : ℕ) → 1 ≤ m → rowOf x ≡ m → (rowOf (aged x) ≡ m) ⊎ ((aged x .wait .kind ≡ nothing) × (aged x .code ≡ timeout))
 unfolding aged rowOf
-aged-waits x m some e = go (isTimed x) (eqb (x .remaining) 1)
+aged-waits x m some e = go (isTimed x) (eqb (x .wait .remaining) 1)
   where
     awake : ranOut x ≡ timeout
-    awake = rw (ne-eqb (x .wait) aSleep (λ z. omega (arith, row-waits x (omega arith))))
+    awake = rw (ne-eqb (x .wait .kind) aSleep (λ z. omega (arith, row-waits x (omega arith))))
 
-    go : (a b : Bool) → (rowOf (cond a (cond b (ended x (ranOut x) 0) (withRemaining x (x .remaining - 1))) x) ≡ m)
-        ⊎ ((cond a (cond b (ended x (ranOut x) 0) (withRemaining x (x .remaining - 1))) x .wait ≡ nothing)
-        × (cond a (cond b (ended x (ranOut x) 0) (withRemaining x (x .remaining - 1))) x .code ≡ timeout))
+    go : (a b : Bool) → (rowOf (cond a (cond b (ended x (ranOut x) 0) (withRemaining x (x .wait .remaining - 1))) x) ≡ m)
+        ⊎ ((cond a (cond b (ended x (ranOut x) 0) (withRemaining x (x .wait .remaining - 1))) x .wait .kind ≡ nothing)
+        × (cond a (cond b (ended x (ranOut x) 0) (withRemaining x (x .wait .remaining - 1))) x .code ≡ timeout))
     go true true = inr (refl, awake)
     go true false = inl e
     go false b = inl e
 
 -- ---- a stop
-pub stopped-at : (s : State) (t : ℕ) → t < length (s .tasks) → task (stopped t s) t .wait ≡ nothing
+pub stopped-at : (s : State) (t : ℕ) → t < length (s .tasks) → task (stopped t s) t .wait .kind ≡ nothing
 unfolding stopped
 stopped-at s t long = go (eqb (task s t .activations) 0)
   where
     x : Task
     x = dormant (task s t .base)
 
-    go : (b : Bool) → task (cond b (moved t x s) (moved t (activated x) (moved t x s))) t .wait ≡ nothing
+    go : (b : Bool) → task (cond b (moved t x s) (moved t (activated x) (moved t x s))) t .wait .kind ≡ nothing
     go true = rw (task-moved s t x long)
     go false = rw (task-moved (moved t x s) t (activated x) (rw (tasks-moved s t x) long))
 

@@ -15,11 +15,9 @@ use Rattle.model.specs.State.{task, moved}
 use Rattle.model.specs.Sound.{Sound}
 use Rattle.laws.proofs.Number.{same?}
 use Rattle.laws.proofs.Record.{row-waits}
-use Rattle.kept.proofs.Listed.{key-first}
-use Rattle.kept.proofs.Told.{waiter-in}
-use Rattle.kept.proofs.Shape.{no-waiter}
+use Rattle.kept.proofs.Told.{waiter-in, first-waits, no-waiter}
+use Rattle.kept.proofs.Moved.{task-kept, task-moved}
 use Rattle.turns.specs.Tally.{endsWith0, waitsEnded}
-use Rattle.turns.proofs.Still.{task-kept, task-moved}
 
 -- ---- how many end, by who does
 module _ (s s′ : State) (m : ℕ) where
@@ -39,7 +37,7 @@ module _ (s s′ : State) (m : ℕ) where
 -- who still waits on m has not ended
 waits-on : (x : Task) (m : ℕ) → 1 ≤ m → (b : Bool) → eqb (rowOf x) m && (not (isWaiting x) && b) ≡ false
 waits-on x m some b = ⊎-elim
-    (λ (e : rowOf x ≡ m). rw (eq-eqb (rowOf x) m e, ne-eqb (x .wait) nothing (λ z. omega (arith, row-waits x (omega arith)))))
+    (λ (e : rowOf x ≡ m). rw (eq-eqb (rowOf x) m e, ne-eqb (x .wait .kind) nothing (λ z. omega (arith, row-waits x (omega arith)))))
     (λ (apart : rowOf x ≡ m → ⊥). rw (ne-eqb (rowOf x) m apart))
     (same? (rowOf x) m)
 
@@ -56,7 +54,7 @@ module _ (s : State) (k : Sound s) (m : ℕ) (low : 1 ≤ m) (top : m ≤ 12) wh
       x = ended (task s u) served 0
 
       on : rowOf (task s u) ≡ m
-      on = key-first (s .waits) 21 (λ t. rowOf (task s t)) (k .waits) m (omega arith) (λ z. omega arith) .1
+      on = first-waits s k m (omega arith) some
 
       waits : (1 ≤ u) × (u ≤ 24)
       waits = waiter-in s k u (omega (arith, on))

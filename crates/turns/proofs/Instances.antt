@@ -14,7 +14,7 @@ use Rattle.model.specs.Sound.{Sound}
 use Rattle.model.proofs.Words.{opened}
 use Rattle.kept.specs.Statements.{reached}
 use Rattle.kept.proofs.Kept.{fresh-is-sound, reached-is-sound}
-use Rattle.turns.specs.Kind.{terminate, setSlice}
+use Rattle.ways.specs.Kind.{terminate, setSlice}
 use Rattle.turns.specs.Statements.{placeIn, releases, Ended, HoldsBy, charges, Each, none, each, FirstBy, StaysRunnable, NotTerminated, KeepsPriority, SliceNotSet}
 use Rattle.turns.proofs.Words.{byTask, byInterrupt, aTick}
 use Rattle.turns.proofs.Served.{waiters-are-served}

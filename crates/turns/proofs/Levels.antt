@@ -1,5 +1,5 @@
 -- The levels of records, and what it is to come nearer to the first place of a level.
--- It rests on the records of model/specs/Task, the moves of Still and the numbers that moves leave alone (Numbers).
+-- It rests on the records of model/specs/Task, and the moves of Still.
 use mathlib.Core.Path.{_≡_, refl, _∙_}
 use mathlib.Core.Bool.{Bool, true, false, cond, not, _&&_}
 use Prim.Native.Nat.{ℕ, _+_, _*_, _-_, _≤_}
@@ -16,9 +16,9 @@ use Rattle.model.specs.Task.{isDormant, isSuspended, isWaiting, isRunnable, isT
 use Rattle.model.specs.State.{slice, charge, level, moved}
 use Rattle.model.specs.Sound.{SoundTask}
 use Rattle.laws.proofs.Padded.{both}
-use Rattle.kept.proofs.Records.{some-of, level-live, live-made}
+use Rattle.ways.proofs.Tests.{some-of}
+use Rattle.kept.proofs.Records.{level-live, live-made}
 use Rattle.turns.proofs.Still.{Keyed, Still}
-use Rattle.turns.proofs.Numbers.{Numbers}
 
 pub on-levels : Keyed levelOf (λ s. s .levels)
 unfolding moved
@@ -43,7 +43,7 @@ level-runnable x l h e = go (isRunnable x) h
 
 -- a runnable task has a level
 pub level-some : (x : Task) → SoundTask x → T (isRunnable x) → 1 ≤ x .priority
-level-some x k h = k .priority (live-made x k (some-of (x .active) (both (not (isDormant x)) (not (isSuspended x) && not (isWaiting x)) h .0))) .0
+level-some x k h = k .priority (live-made x k (some-of (x .active) .yields (both (not (isDormant x)) (not (isSuspended x) && not (isWaiting x)) h .0))) .0
 
 pub level-none : levelOf noTask ≡ 0
 unfolding levelOf
@@ -59,7 +59,7 @@ level-ended x v b h = let e = level-live x h .1 in unfold levelOf in rw e
 pub level-told : (w : News) (x : Task) → 1 ≤ levelOf x → levelOf (told w x) ≡ levelOf x
 unfolding told
 level-told Deleted x h = level-ended x dlt 0 h
-level-told (Bits b) x h = go (isMet (x .pattern) (x .mode) b)
+level-told (Bits b) x h = go (isMet (x .wait .pattern) (x .wait .mode) b)
   where
     go : (met : Bool) → levelOf (cond met (ended x served b) x) ≡ levelOf x
     go true = level-ended x served b h
@@ -67,9 +67,9 @@ level-told (Bits b) x h = go (isMet (x .pattern) (x .mode) b)
 
 pub level-aged : (x : Task) → 1 ≤ levelOf x → levelOf (aged x) ≡ levelOf x
 unfolding aged
-level-aged x h = go (isTimed x) (eqb (x .remaining) 1)
+level-aged x h = go (isTimed x) (eqb (x .wait .remaining) 1)
   where
-    go : (a b : Bool) → levelOf (cond a (cond b (ended x (ranOut x) 0) (withRemaining x (x .remaining - 1))) x) ≡ levelOf x
+    go : (a b : Bool) → levelOf (cond a (cond b (ended x (ranOut x) 0) (withRemaining x (x .wait .remaining - 1))) x) ≡ levelOf x
     go true true = level-ended x (ranOut x) 0 h
     go true false = unfold levelOf in refl
     go false b = refl
@@ -79,10 +79,10 @@ pub record Nearer (l t : ℕ) (s s′ : State) (d : ℕ) : Type 0 where
   pub steady : slice s′ l ≡ slice s l
   pub falls : place (level s′ l) t * slice s l + (d + charge s l) ≤ place (level s l) t * slice s l + charge s′ l
 
-pub nearer-still : {l t : ℕ} {s s′ : State} → Still levelOf (λ z. z .levels) l t s s′ → Numbers s s′ → Nearer l t s s′ 0
+pub nearer-still : {l t : ℕ} {s s′ : State} → Still levelOf (λ z. z .levels) l t s s′ → s′ .numbers ≡ s .numbers → Nearer l t s s′ 0
 nearer-still {l} {t} {s} {s′} a r = record {
-  steady = rw (r .slices);
-  falls = rw (r .charges) (omega (arith, mul-le-mul-right (slice s l) (a .nearer)));
+  steady = rw r;
+  falls = rw r (omega (arith, mul-le-mul-right (slice s l) (a .nearer)));
 }
 
 pub nearer-then : {l t : ℕ} {s₁ s₂ s₃ : State} {d : ℕ} → Nearer l t s₁ s₂ d → Nearer l t s₂ s₃ 0 → Nearer l t s₁ s₃ d

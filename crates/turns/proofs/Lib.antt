@@ -1,12 +1,10 @@
 pub mod Words
 pub mod Pages
 pub mod Places
-pub mod Ways
 pub mod Still
 pub mod Ends
 pub mod Outcome
 pub mod Served
-pub mod Numbers
 pub mod Levels
 pub mod Charged
 pub mod Nearer

@@ -1,5 +1,5 @@
 -- What a call does to a task that waits on a semaphore: it waits on, one place nearer at a release, or its wait ends in one of five ways.
--- It goes by the ways of the plans (Ways), by the moves that leave a waiter where it is (Still) and by those that end its wait (Ends).
+-- It goes by the ways of ways, by the moves that leave a waiter where it is (Still) and by those that end its wait (Ends).
 use mathlib.Core.Path.{_≡_, refl, sym, ap, _∙_}
 use mathlib.Core.Bool.{not, _&&_}
 use mathlib.Core.Logic.{_⊎_, inl, inr, ⊎-elim}
@@ -12,47 +12,49 @@ use Rattle.model.specs.declared.State.{State}
 use Rattle.model.specs.declared.Plan.{Plan}
 use Rattle.model.specs.declared.News.{News}
 use Rattle.model.specs.declared.News.the-variants.{Deleted}
+use Rattle.model.specs.declared.Effect.{Effect}
+use Rattle.model.specs.declared.Code.{Code}
+use Rattle.model.specs.declared.Code.the-variants.{NoErr}
 use Rattle.model.specs.declared.Effect.the-variants.{Moves, Deletes, Ticks, Tells}
 use Rattle.model.specs.Row.{place, first, left, row, firstOf, relisted}
-use Rattle.model.specs.Task.{nothing, served, timeout, dlt, released, rowOf, ended, aged}
-use Rattle.model.specs.State.{task, count, maximum, waiters, running, moved, counted, flagged, sliced, withTime}
+use Rattle.model.specs.Task.{nothing, served, timeout, dlt, released, rowOf, waiting, ended, aged}
+use Rattle.model.specs.State.{task, count, time, maximum, waiters, running, moved, counted, flagged, sliced, withTime}
 use Rattle.model.specs.Code.{isRefusal}
 use Rattle.model.specs.Effect.{toldAll, deleted, toldFlag, charged, lapsed, ticked, carried}
-use Rattle.model.specs.Plan.{does}
 use Rattle.model.specs.Test.{one, occ}
 use Rattle.model.specs.Sound.{Sound}
 use Rattle.laws.proofs.Number.{same?}
-use Rattle.laws.proofs.Table.{first-row}
 use Rattle.laws.proofs.Relisted.{row-relisted-from}
-use Rattle.laws.proofs.Occ.{one-eq, one-ne}
+use Rattle.laws.proofs.Occ.{one-eq, one-ne, one-not}
 use Rattle.laws.proofs.Record.{row-waits, flag-row}
-use Rattle.kept.proofs.Listed.{key-of, key-first, listed-in}
-use Rattle.kept.proofs.Told.{waiter-in}
+use Rattle.kept.proofs.Listed.{key-of, listed-in}
+use Rattle.kept.proofs.Told.{waiter-in, first-waits, no-waiter}
 use Rattle.kept.proofs.Running.{runner}
-use Rattle.kept.proofs.Shape.{no-waiter}
-use Rattle.turns.specs.Kind as Kinds
-use Rattle.turns.specs.Kind.{Kind, forcedRelease, release, deletion, isReleaseOf}
-use Rattle.turns.specs.Tally.{Entry}
+use Rattle.kept.proofs.Changed.{change-row}
+use Rattle.ways.specs.Kind as Kinds
+use Rattle.ways.specs.Kind.{Kind, forcedRelease, release, deletion, isReleaseOf}
+use Rattle.ways.specs.Entry.{Entry}
+use Rattle.kept.proofs.Moved.{task-moved}
 use Rattle.turns.specs.Statements.{Ended}
 use Rattle.turns.proofs.Places.{place-served}
-use Rattle.turns.proofs.Ways as Ways
-use Rattle.turns.proofs.Ways.{Way, refused-none, other-none}
+use Rattle.ways.proofs.Done.{Done, Way, refuses, accepts}
+use Rattle.ways.proofs.Done.{Done as Ways}
 use Rattle.turns.proofs.Ends.{lapsed-at, aged-waits, stopped-at, ended-at}
-use Rattle.turns.proofs.Still.{tasks-charged, task-moved, Keyed, Still, still-same, still-then, still-moved, still-stopped, still-told, still-lapsed}
+use Rattle.turns.proofs.Still.{tasks-charged, Keyed, Still, still-same, still-then, still-moved, still-stopped, still-told, still-lapsed}
 
 on-waits : Keyed rowOf (λ s. s .waits)
 unfolding moved
 on-waits = record { relists = λ s u x. refl }
 
 -- ---- what a call does to t, which waits on m
-pub data Outcome (s : State) (m t : ℕ) (k : Kind) (p : Plan) : Type 0 where
-  waits : rowOf (task (carried s (p .effect)) t) ≡ m
-      → place (waiters (carried s (p .effect)) m) t + one (not (isRefusal (p .code)) && isReleaseOf m k) ≤ place (waiters s m) t → Outcome s m t k p
-  holds : T (not (isRefusal (p .code)) && isReleaseOf m k) → Ended (carried s (p .effect)) t served → Outcome s m t k p
-  lapses : T (not (isRefusal (p .code))) → k ≡ Kinds.tick → Ended (carried s (p .effect)) t timeout → Outcome s m t k p
-  forced : T (not (isRefusal (p .code))) → k ≡ forcedRelease t → Ended (carried s (p .effect)) t released → Outcome s m t k p
-  stops : T (not (isRefusal (p .code))) → k ≡ Kinds.terminate t → task (carried s (p .effect)) t .wait ≡ nothing → Outcome s m t k p
-  deletes : T (not (isRefusal (p .code))) → k ≡ deletion m → Ended (carried s (p .effect)) t dlt → Outcome s m t k p
+pub data Outcome (s : State) (m t : ℕ) (k : Kind) (c : Code) (x : Effect) : Type 0 where
+  waits : rowOf (task (carried s x) t) ≡ m
+      → place (waiters (carried s x) m) t + one (not (isRefusal c) && isReleaseOf m k) ≤ place (waiters s m) t → Outcome s m t k c x
+  holds : T (not (isRefusal c) && isReleaseOf m k) → Ended (carried s x) t served → Outcome s m t k c x
+  lapses : T (not (isRefusal c)) → k ≡ Kinds.tick → Ended (carried s x) t timeout → Outcome s m t k c x
+  forced : T (not (isRefusal c)) → k ≡ forcedRelease t → Ended (carried s x) t released → Outcome s m t k c x
+  stops : T (not (isRefusal c)) → k ≡ Kinds.terminate t → task (carried s x) t .wait .kind ≡ nothing → Outcome s m t k c x
+  deletes : T (not (isRefusal c)) → k ≡ deletion m → Ended (carried s x) t dlt → Outcome s m t k c x
 
 module _ (s : State) (k : Sound s) (m t : ℕ) (h : 1 ≤ m) (top : m ≤ 12) (e : rowOf (task s t) ≡ m) where
   low : 1 ≤ t
@@ -62,7 +64,7 @@ module _ (s : State) (k : Sound s) (m t : ℕ) (h : 1 ≤ m) (top : m ≤ 12) (e
   long = omega (arith, k .tasks#, waiter-in s k t (omega arith) .1)
 
   -- it goes on waiting
-  on : {j : Kind} {p : Plan} → Still rowOf (λ z. z .waits) m t s (carried s (p .effect)) → one (not (isRefusal (p .code)) && isReleaseOf m j) ≡ 0 → Outcome s m t j p
+  on : {j : Kind} {c : Code} {x : Effect} → Still rowOf (λ z. z .waits) m t s (carried s x) → one (not (isRefusal c) && isReleaseOf m j) ≡ 0 → Outcome s m t j c x
   on a z = waits (a .keyed) (omega (arith, a .nearer))
 
   same : Still rowOf (λ z. z .waits) m t s s
@@ -90,13 +92,12 @@ module _ (s : State) (k : Sound s) (m t : ℕ) (h : 1 ≤ m) (top : m ≤ 12) (e
       → suc (place (waiters (moved u (ended (task s u) served 0) s) m) t) ≤ place (waiters s m) t
   unfolding moved rowOf
   first-leaves u f g apart =
-      let q : first (waiters s m) ≡ u = sym (first-row (s .waits) m) ∙ f in
       let z : row (relisted (s .waits) (rowOf (task s u)) 0 u) m ≡ left (waiters s m) (first (waiters s m)) =
-      ap (λ i. row (relisted (s .waits) i 0 u) m) g ∙ row-relisted-from (s .waits) m 0 u (λ y. omega arith) (λ y. omega arith) ∙ ap (left (waiters s m)) (sym q) in
-      rw z (place-served (waiters s m) t (omega (arith, listed)) (λ y. apart (sym q ∙ y)))
+      ap (λ i. row (relisted (s .waits) i 0 u) m) g ∙ row-relisted-from (s .waits) m 0 u (λ y. omega arith) (λ y. omega arith) (omega (arith, k .waits .sized)) ∙ ap (left (waiters s m)) (sym f) in
+      rw z (place-served (waiters s m) t (omega (arith, listed)) (λ y. apart (sym f ∙ y)))
 
   serving : (n : ℕ) → n ≤ 12 → 1 ≤ firstOf (s .waits) n
-      → Outcome s m t (release n) (does (Moves (firstOf (s .waits) n) (ended (task s (firstOf (s .waits) n)) served 0)))
+      → Outcome s m t (release n) NoErr (Moves (firstOf (s .waits) n) (ended (task s (firstOf (s .waits) n)) served 0))
   unfolding carried
   serving n most some = go (same? u t) (same? n m)
     where
@@ -104,9 +105,9 @@ module _ (s : State) (k : Sound s) (m t : ℕ) (h : 1 ≤ m) (top : m ≤ 12) (e
       u = firstOf (s .waits) n
 
       g : rowOf (task s u) ≡ n
-      g = key-first (s .waits) 21 (λ i. rowOf (task s i)) (k .waits) n (omega arith) (λ z. omega arith) .1
+      g = first-waits s k n (omega arith) some
 
-      go : (u ≡ t) ⊎ (u ≡ t → ⊥) → (n ≡ m) ⊎ (n ≡ m → ⊥) → Outcome s m t (release n) (does (Moves u (ended (task s u) served 0)))
+      go : (u ≡ t) ⊎ (u ≡ t → ⊥) → (n ≡ m) ⊎ (n ≡ m → ⊥) → Outcome s m t (release n) NoErr (Moves u (ended (task s u) served 0))
       go (inl z) b = let y : n ≡ m = sym g ∙ ap (λ i. rowOf (task s i)) z ∙ e in holds (rw y (eqb-refl m)) (over u served z)
       go (inr apart) (inl y) =
           waits (moving u (ended (task s u) served 0) (λ z. absurd (apart z)) .keyed)
@@ -118,11 +119,11 @@ module _ (s : State) (k : Sound s) (m t : ℕ) (h : 1 ≤ m) (top : m ≤ 12) (e
   others w n most apart = still-told on-waits m t low w (waiters s n) s
       (λ there. absurd (apart (sym (key-of (s .waits) 21 (λ i. rowOf (task s i)) (k .waits) n t (omega arith) low there .1) ∙ e))) e
 
-  deleting : (n : ℕ) → 1 ≤ n → n ≤ 12 → Outcome s m t (deletion n) (does (Deletes n))
+  deleting : (n : ℕ) → 1 ≤ n → n ≤ 12 → Outcome s m t (deletion n) NoErr (Deletes n)
   unfolding carried deleted counted
   deleting n some most = go (same? n m)
     where
-      go : (n ≡ m) ⊎ (n ≡ m → ⊥) → Outcome s m t (deletion n) (does (Deletes n))
+      go : (n ≡ m) ⊎ (n ≡ m → ⊥) → Outcome s m t (deletion n) NoErr (Deletes n)
       go (inl y) =
           let a = ended-at (waiters s n) s t low long (k .waits .ends n (omega arith)) (inr (rw y (omega (arith, listed)))) in
           deletes tt (ap deletion y) (record { over = a .over; code = a .code })
@@ -130,54 +131,65 @@ module _ (s : State) (k : Sound s) (m t : ℕ) (h : 1 ≤ m) (top : m ≤ 12) (e
           let a = others Deleted n (omega arith) other in
           on (record { keyed = a .keyed; nearer = a .nearer }) refl
 
-  telling : (f : ℕ) (w : News) (a b : ℕ) → 1 ≤ f → f ≤ 8 → Outcome s m t Kinds.other (does (Tells f w a b))
+  telling : (f : ℕ) (w : News) (a b : ℕ) → 1 ≤ f → f ≤ 8 → Outcome s m t Kinds.other NoErr (Tells f w a b)
   unfolding carried toldFlag flagged
   telling f w a b some most =
       let z = rw (← flag-row f some most) at (others w (f + 12) (omega arith) (λ y. omega arith)) in
       on (record { keyed = z .keyed; nearer = z .nearer }) refl
 
-  ticking : Outcome s m t Kinds.tick (does Ticks)
+  ticking : Outcome s m t Kinds.tick NoErr Ticks
   unfolding carried ticked
   ticking = go (aged-waits (task s t) m h e)
     where
       z : State
-      z = charged (running s) (withTime ((s .time + 1) % 2 ^ 32) s)
+      z = charged (running s) (withTime ((time s + 1) % 2 ^ 32) s)
 
       kept : (z .tasks ≡ s .tasks) × (z .waits ≡ s .waits)
-      kept = let a = tasks-charged (withTime ((s .time + 1) % 2 ^ 32) s) (running s) in (a .0, a .1)
+      kept = let a = tasks-charged (withTime ((time s + 1) % 2 ^ 32) s) (running s) in (a .0, a .1)
 
       at : task z t ≡ task s t
       at = rw (kept .0)
 
-      go : (rowOf (aged (task s t)) ≡ m) ⊎ ((aged (task s t) .wait ≡ nothing) × (aged (task s t) .code ≡ timeout)) → Outcome s m t Kinds.tick (does Ticks)
+      go : (rowOf (aged (task s t)) ≡ m) ⊎ ((aged (task s t) .wait .kind ≡ nothing) × (aged (task s t) .code ≡ timeout)) → Outcome s m t Kinds.tick NoErr Ticks
       go (inl w) = on (still-then on-waits m t low (untouched z (kept .0) (kept .1)) (still-lapsed on-waits m t low 24 1 z (λ _. rw at w) (rw at e))) refl
       go (inr w) =
           let y : task (lapsed 24 1 z) t ≡ aged (task s t) = lapsed-at 24 1 z t (rw (kept .0) long) low (omega (arith, waiter-in s k t (omega arith))) ∙ ap aged at in
           lapses tt refl (record { over = rw y (w .0); code = rw y (w .1) })
 
-  pub outcome : {j : Kind} {i : Entry} {p : Plan} → Way s j i p → Outcome s m t j p
+  -- a record changes, and with it no wait on a semaphore
+  changing : (u : ℕ) (x : Task) → (1 ≤ rowOf (task s u) → rowOf x ≡ rowOf (task s u)) → Still rowOf (λ z. z .waits) m t s (moved u x s)
+  changing u x keeps = moving u x (λ z. let y = ap (λ i. rowOf (task s i)) z ∙ e in keeps (omega arith) ∙ y)
+
+  -- the running task waits on nothing
+  runs-idle : {A : Type 0} → 1 ≤ running s → 1 ≤ rowOf (task s (running s)) → A
+  runs-idle some listed = absurd (omega (arith, row-waits (task s (running s)) listed, runner s k some .idle))
+
+  outcome-done : {j : Kind} {i : Entry} {c : Code} {x : Effect} → Done s j i c x → Outcome s m t j c x
   unfolding carried counted flagged sliced
-  outcome {j} (Ways.refuses c n) = on same (refused-none (isRefusal c) (isReleaseOf m j) n)
-  outcome Ways.ticks = ticking
-  outcome (Ways.exits some) =
-      on (still-stopped on-waits m t low s (running s) (λ z. omega (arith, row-waits (task s t) (omega arith), rw z at (runner s k some .idle))) e) refl
-  outcome (Ways.terminates u) = ⊎-elim
+  outcome-done Ways.ticks = ticking
+  outcome-done (Ways.exits some) = on (still-stopped on-waits m t low s (running s) (λ z. runs-idle some (rw z (omega arith))) e) refl
+  outcome-done (Ways.terminates u some most made) = ⊎-elim
       (λ (z : u ≡ t). stops tt (ap Kinds.terminate z) (rw z (stopped-at s t long)))
       (λ (apart : u ≡ t → ⊥). on (still-stopped on-waits m t low s u apart e) refl)
       (same? u t)
-  outcome (Ways.forces u) = ⊎-elim
+  outcome-done (Ways.forces u some most waited) = ⊎-elim
       (λ (z : u ≡ t). forced tt (ap forcedRelease z) (over u released z))
       (λ (apart : u ≡ t → ⊥). on (moving u (ended (task s u) released 0) (λ z. absurd (apart z))) refl)
       (same? u t)
-  outcome (Ways.slices l v) = on (untouched (sliced l v s) refl refl) refl
-  outcome (Ways.serves n made some) = serving n (made .top) some
-  outcome (Ways.raises n made free) =
+  outcome-done (Ways.slices l v some most) = on (untouched (sliced l v s) refl refl) refl
+  outcome-done (Ways.serves n made some) = serving n (made .top) some
+  outcome-done (Ways.raises n made free less) =
       on (untouched (counted n (count s n + 1) (maximum s n) s) refl refl) (one-ne n m (λ y. no-waiter s k m h (omega arith) (rw y at free) t e))
-  outcome (Ways.deletes n made) = deleting n (made .low) (made .top)
-  outcome Ways.keeps = on same refl
-  outcome (Ways.creates n c v some most made) = on (untouched (counted n c v s) refl refl) refl
-  outcome (Ways.takes n made left e) = on (untouched (counted n (count s n - 1) (maximum s n) s) refl refl) refl
-  outcome (Ways.flags v f a b) = on (untouched (flagged f a b s) refl refl) refl
-  outcome (Ways.tells f w a b some most) = telling f w a b some most
-  outcome (Ways.moves c u x n silent keeps) =
-      on (moving u x (λ z. let y = ap (λ i. rowOf (task s i)) z ∙ e in keeps k (omega arith) ∙ y)) (other-none (not (isRefusal c)))
+  outcome-done (Ways.deletes n made) = deleting n (made .low) (made .top)
+  outcome-done Ways.keeps = on same refl
+  outcome-done (Ways.moves u x n c) = on (changing u x (change-row k c)) refl
+  outcome-done (Ways.waits w some b) = on (changing (running s) (waiting (task s (running s)) w) (runs-idle some)) refl
+  outcome-done (Ways.creates n c v some most fits low few free) = on (untouched (counted n c v s) refl refl) refl
+  outcome-done (Ways.takes n made left i) = on (untouched (counted n (count s n - 1) (maximum s n) s) refl refl) refl
+  outcome-done (Ways.flags f a b r) = on (untouched (flagged f a b s) refl refl) refl
+  outcome-done (Ways.tells f w a b made r) = telling f w a b (made .low) (made .top)
+
+  pub outcome : {j : Kind} {i : Entry} {p : Plan} → Way s j i p → Outcome s m t j (p .code) (p .effect)
+  unfolding carried
+  outcome {j} (refuses c n d) = on same (one-not (isRefusal c) (isReleaseOf m j) n)
+  outcome (accepts c v x n d done) = outcome-done done

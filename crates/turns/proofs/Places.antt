@@ -8,6 +8,7 @@ use Prim.Native.Nat.{ℕ, suc, _+_, _≤_}
 use native.Mathlib.Omega.{arith}
 use lib.Dec.{eqb}
 use borrow.Author.Tests.{eq-eqb, ne-eqb}
+use Rattle.model.specs.declared.Queue.{Queue}
 use Rattle.model.specs.Row.{place, gap, first, joined, left, turned, row, relisted}
 use Rattle.model.specs.Test.{one, occ}
 use Rattle.laws.proofs.Number.{same?}
@@ -97,7 +98,7 @@ unfolding turned
 place-turned q t some there apart = omega (arith, place-joined (left q (first q)) (first q) t some, place-served q t there apart)
 
 -- ---- a row of a table, where u leaves row f for row g, or t itself keeps its row
-pub place-relisted : (ls : List ℕ) (f g u l t : ℕ) → 1 ≤ t → (u ≡ t → f ≡ g) → place (row (relisted ls f g u) l) t ≤ place (row ls l) t
+pub place-relisted : (ls : List Queue) (f g u l t : ℕ) → 1 ≤ t → (u ≡ t → f ≡ g) → place (row (relisted ls f g u) l) t ≤ place (row ls l) t
 place-relisted ls f g u l t some keeps = row-cases (λ q. place q t ≤ place (row ls l) t) ls f g u l
     (λ _. omega arith)
     (λ apart low e. rw e (place-left (row ls f) u t (λ z. apart (keeps z))))

@@ -15,7 +15,7 @@ use Rattle.model.specs.Row.{firstOf}
 use Rattle.model.specs.Task.{nothing, rowOf}
 use Rattle.model.specs.State.{task}
 use Rattle.laws.proofs.Padded.{both}
-use Rattle.turns.specs.Kind.{Kind, kind, tick, exit, other, terminate, forcedRelease, setSlice, release, deletion}
+use Rattle.ways.specs.Kind.{Kind, kind, tick, exit, other, terminate, forcedRelease, setSlice, release, deletion}
 use Rattle.turns.specs.Statements.{next, Does, isRelease, EndsSooner, byTimeout, byForcedRelease, byTermination, byDeletion, HoldsBy, holds, sooner, passes, waits, isCharged, Each, none, each, FirstBy, first, charged, later}
 
 -- ---- first by the n-th charged tick
@@ -55,11 +55,11 @@ seenOver m t (suc n) s (a ∷ rest) =
     cond (eqb (rowOf (task (next s a) t)) m) (cond (isRelease s a m) (seenOver m t n (next s a) rest) (seenOver m t (suc n) (next s a) rest)) true
 
 -- who waits for nothing waits on no semaphore
-row-none : (x : Task) (m : ℕ) → 1 ≤ m → x .wait ≡ nothing → eqb (rowOf x) m ≡ false
+row-none : (x : Task) (m : ℕ) → 1 ≤ m → x .wait .kind ≡ nothing → eqb (rowOf x) m ≡ false
 unfolding rowOf
 row-none x m some e = rw e (ne-eqb 0 m (λ z. omega arith))
 
-ended-none : {s : State} {a : Context × Call} {m t : ℕ} → EndsSooner s a m t → task (next s a) t .wait ≡ nothing
+ended-none : {s : State} {a : Context × Call} {m t : ℕ} → EndsSooner s a m t → task (next s a) t .wait .kind ≡ nothing
 ended-none (byTimeout d e) = e .over
 ended-none (byForcedRelease d e) = e .over
 ended-none (byTermination d e) = e

@@ -15,10 +15,10 @@ use Rattle.model.specs.Call.{planned, step}
 use Rattle.model.specs.Test.{one}
 use Rattle.model.specs.Sound.{Sound}
 use Rattle.kept.proofs.Kept.{sound-stays-sound}
-use Rattle.turns.specs.Kind.{kind}
+use Rattle.ways.specs.Kind.{kind}
 use Rattle.turns.specs.Statements as Say
 use Rattle.turns.specs.Statements.{next, isRelease, releases, WaitsOn, HoldsBy, WaitersAreServed}
-use Rattle.turns.proofs.Ways.{way}
+use Rattle.ways.proofs.Ways.{way}
 use Rattle.turns.proofs.Outcome.{Outcome, waits, holds, lapses, forced, stops, deletes, outcome}
 
 held : (m t : ℕ) → 1 ≤ m → m ≤ 12 → (calls : List (Context × Call)) (s : State) (n : ℕ) → Sound s → WaitsOn s m t → place (waiters s m) t + 1 ≤ n → n ≤ releases s calls m
@@ -40,7 +40,7 @@ held m t h top (a ∷ rest) s n k e turn enough =
     some zero low here = absurd (omega arith)
     some (suc j) low here = here j
 
-    go : Outcome s m t (kind (a .1)) (planned s (a .0) (a .1))
+    go : Outcome s m t (kind (a .1)) (planned s (a .0) (a .1) .code) (planned s (a .0) (a .1) .effect)
         → ((j : ℕ) → WaitsOn (next s a) m t → place (waiters (next s a) m) t + 1 ≤ j → j ≤ releases (next s a) rest m → HoldsBy m t j (next s a) rest)
         → HoldsBy m t n s (a ∷ rest)
     go (waits w p) more = goes (isRelease s a m) n refl w (omega arith) enough more

@@ -7,34 +7,24 @@ use mathlib.Core.Logic.{⊎-elim}
 use Prim.Native.Nat.{ℕ, zero, suc, _+_, _≤_, _<_}
 use native.Mathlib.Omega.{arith}
 use lib.Dec.{eqb, ltb}
-use lib.ListN.{length, length-set}
-use lib.Seq.{getD-set-same, getD-set-other, set-out}
+use lib.ListN.{length}
+use lib.Seq.{set-out}
 use borrow.Author.Tests.{eq-eqb, ne-eqb}
 use Rattle.model.specs.declared.Task.{Task}
+use Rattle.model.specs.declared.Queue.{Queue}
 use Rattle.model.specs.declared.State.{State}
 use Rattle.model.specs.Row.{place, row, relisted}
 use Rattle.model.specs.declared.News.{News}
-use Rattle.model.specs.Task.{noTask, dormant, activated, aged, told}
+use Rattle.model.specs.Task.{dormant, activated, aged, told}
 use Rattle.model.specs.State.{task, slice, charge, moved, withCharge, rotated}
 use Rattle.model.specs.Effect.{stopped, toldAll, chargedLevel, charged, lapsed}
 use Rattle.model.specs.Test.{occ}
 use Rattle.laws.proofs.Number.{same?, below?}
 use Rattle.laws.proofs.Occ.{occ-cons, one-eq}
+use Rattle.kept.proofs.Moved.{task-kept, task-moved}
 use Rattle.turns.proofs.Places.{place-relisted}
 
 -- ---- the record of t after a move
-pub task-kept : (s : State) (u : ℕ) (x : Task) (t : ℕ) → (u ≡ t → ⊥) → task (moved u x s) t ≡ task s t
-unfolding moved
-task-kept s u x t apart = getD-set-other (s .tasks) u t x noTask (λ e. apart (sym e))
-
-pub task-moved : (s : State) (t : ℕ) (x : Task) → t < length (s .tasks) → task (moved t x s) t ≡ x
-unfolding moved
-task-moved s t x h = getD-set-same (s .tasks) t x noTask h
-
-pub tasks-moved : (s : State) (u : ℕ) (x : Task) → length (moved u x s .tasks) ≡ length (s .tasks)
-unfolding moved
-tasks-moved s u x = length-set (s .tasks) u x
-
 -- what holds of its own new record, and of its old one, holds of its record
 pub task-either : (P : Task → Type 0) (s : State) (u : ℕ) (x : Task) (t : ℕ) → (u ≡ t → P x) → P (task s t) → P (task (moved u x s) t)
 unfolding moved
@@ -48,7 +38,7 @@ task-either P s u x t here else = ⊎-elim
 
 -- a tick's charge moves no task and no waiter, and counts for no semaphore
 pub tasks-charged : (s : State) (run : ℕ)
-    → (charged run s .tasks ≡ s .tasks) × (charged run s .waits ≡ s .waits) × (charged run s .counts ≡ s .counts) × (charged run s .maxima ≡ s .maxima)
+    → (charged run s .tasks ≡ s .tasks) × (charged run s .waits ≡ s .waits) × (charged run s .numbers .counts ≡ s .numbers .counts) × (charged run s .numbers .maxima ≡ s .numbers .maxima)
 unfolding charged chargedLevel rotated
 tasks-charged s run = go (eqb run 0) (eqb (slice s (task s run .priority)) 0) (ltb (charge s (task s run .priority) + 1) (slice s (task s run .priority)))
   where
@@ -58,21 +48,21 @@ tasks-charged s run = go (eqb run 0) (eqb (slice s (task s run .priority)) 0) (l
     z : Bool → Bool → Bool → State
     z a b c = cond a s (cond b s (cond c (withCharge l (charge s l + 1) s) (rotated l (withCharge l 0 s))))
 
-    go : (a b c : Bool) → (z a b c .tasks ≡ s .tasks) × (z a b c .waits ≡ s .waits) × (z a b c .counts ≡ s .counts) × (z a b c .maxima ≡ s .maxima)
+    go : (a b c : Bool) → (z a b c .tasks ≡ s .tasks) × (z a b c .waits ≡ s .waits) × (z a b c .numbers .counts ≡ s .numbers .counts) × (z a b c .numbers .maxima ≡ s .numbers .maxima)
     go true b c = (refl, refl, refl, refl)
     go false true c = (refl, refl, refl, refl)
     go false false true = (refl, refl, refl, refl)
     go false false false = (refl, refl, refl, refl)
 
 -- ---- a key and its table
-pub record Keyed (key : Task → ℕ) (table : State → List ℕ) : Type 0 where
+pub record Keyed (key : Task → ℕ) (table : State → List Queue) : Type 0 where
   pub relists : (s : State) (u : ℕ) (x : Task) → table (moved u x s) ≡ relisted (table s) (key (task s u)) (key x) u
 
-pub record Still (key : Task → ℕ) (table : State → List ℕ) (l t : ℕ) (s s′ : State) : Type 0 where
+pub record Still (key : Task → ℕ) (table : State → List Queue) (l t : ℕ) (s s′ : State) : Type 0 where
   pub keyed : key (task s′ t) ≡ l
   pub nearer : place (row (table s′) l) t ≤ place (row (table s) l) t
 
-module _ {key : Task → ℕ} {table : State → List ℕ} (keyed : Keyed key table) (l t : ℕ) (some : 1 ≤ t) where
+module _ {key : Task → ℕ} {table : State → List Queue} (keyed : Keyed key table) (l t : ℕ) (some : 1 ≤ t) where
   pub still-same : (s : State) → key (task s t) ≡ l → Still key table l t s s
   still-same s e = record { keyed = e; nearer = omega arith }
 

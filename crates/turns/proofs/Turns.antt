@@ -1,6 +1,6 @@
 -- Part B of specs/Statements: a runnable task is first of its level by the time its turn has come round.
 -- It rests on what a call does to such a task (Nearer) and goes by induction on the calls.
-use mathlib.Core.Path.{_≡_, refl, _∙_}
+use mathlib.Core.Path.{_≡_, refl}
 use mathlib.Core.Bool.{Bool, true, false, not}
 use mathlib.Core.List.{List, [], _∷_}
 use mathlib.Core.Logic.{⊎-elim}
@@ -18,24 +18,23 @@ use Rattle.model.specs.Call.{step}
 use Rattle.model.specs.Test.{one}
 use Rattle.model.specs.Sound.{Sound}
 use Rattle.laws.proofs.Number.{same?}
-use Rattle.laws.proofs.Table.{first-row}
 use Rattle.kept.proofs.Kept.{sound-stays-sound}
 use Rattle.turns.specs.Statements as Say
 use Rattle.turns.specs.Statements.{next, isCharged, charges, IsFirst, StaysRunnable, NotTerminated, KeepsPriority, SliceNotSet, Each, none, each, FirstBy, TurnsComeRound}
 use Rattle.turns.proofs.Places.{place-first}
-use Rattle.turns.proofs.Ways.{way}
+use Rattle.ways.proofs.Ways.{way}
 use Rattle.turns.proofs.Levels.{level-runnable, level-some, Nearer}
 use Rattle.turns.proofs.Charged.{listed}
 use Rattle.turns.proofs.Nearer.{nearer}
 
 module _ (l t : ℕ) (h : 1 ≤ l) where
   is-first : (s : State) → Sound s → levelOf (task s t) ≡ l → place (level s l) t ≡ 0 → IsFirst s l t
-  is-first s k e z = first-row (s .levels) l ∙ place-first (level s l) t (omega (arith, listed s k l t h e)) z
+  is-first s k e z = place-first (level s l) t (omega (arith, listed s k l t h e)) z
 
   -- who is not first is a whole slice behind, and the charge is below the slice
   behind : (s : State) → Sound s → (place (level s l) t ≡ 0 → ⊥) → 1 ≤ slice s l → place (level s l) t * slice s l ≤ charge s l → ⊥
   behind s k far some less =
-      let below : charge s l < slice s l = ⊎-elim (λ c. c) (λ c. absurd (omega arith)) (k .charges l) in
+      let below : charge s l < slice s l = ⊎-elim (λ c. c) (λ c. absurd (omega arith)) (k .rates .charges l) in
       omega (arith, mul-le-mul-right {m = 1} {n = place (level s l) t} (slice s l) (omega arith))
 
   per-call : (s : State) → Sound s → levelOf (task s t) ≡ l → (a : Context × Call) → levelOf (task (next s a) t) ≡ l → NotTerminated t s a → SliceNotSet l s a

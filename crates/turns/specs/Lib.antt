@@ -1,4 +1,3 @@
-pub mod Kind
 pub mod Tally
 pub mod Statements
 pub mod Ledger

@@ -16,8 +16,9 @@ use Rattle.model.specs.Plan.{isMade}
 use Rattle.model.specs.Call.{step}
 use Rattle.model.specs.Test.{one}
 use Rattle.model.specs.Sound.{Sound}
-use Rattle.turns.specs.Kind.{Kind, tick, terminate, forcedRelease, setSlice, deletion, kind, isTick, isReleaseOf}
-use Rattle.turns.specs.Tally.{Kernel, reachedBy, entry, releasedBy, isZero, Tally, noTally, tally}
+use Rattle.ways.specs.Kind.{Kind, tick, terminate, forcedRelease, setSlice, deletion, kind, isTick, isReleaseOf}
+use Rattle.ways.specs.Entry.{entry}
+use Rattle.turns.specs.Tally.{Kernel, reachedBy, releasedBy, isZero, Tally, noTally, tally}
 
 -- ---- a call, with the context it comes from
 -- the state after it
@@ -53,14 +54,14 @@ WaitsOn s m t = rowOf (task s t) ≡ m
 
 -- t waits for nothing, and its last wait ended with code v
 pub record Ended (s : State) (t v : ℕ) : Type 0 where
-  pub over : task s t .wait ≡ nothing
+  pub over : task s t .wait .kind ≡ nothing
   pub code : task s t .code ≡ v
 
 -- the call ends t's wait on m by timeout, forced release, termination or the semaphore's deletion
 pub data EndsSooner (s : State) (a : Context × Call) (m t : ℕ) : Type 0 where
   byTimeout : Does s a tick → Ended (next s a) t timeout → EndsSooner s a m t
   byForcedRelease : Does s a (forcedRelease t) → Ended (next s a) t released → EndsSooner s a m t
-  byTermination : Does s a (terminate t) → task (next s a) t .wait ≡ nothing → EndsSooner s a m t
+  byTermination : Does s a (terminate t) → task (next s a) t .wait .kind ≡ nothing → EndsSooner s a m t
   byDeletion : Does s a (deletion m) → Ended (next s a) t dlt → EndsSooner s a m t
 
 -- through these calls from s, t waits on m until its wait ends, no later than at the n-th successful release of m

@@ -9,12 +9,11 @@ use Rattle.model.specs.declared.State.{State}
 use Rattle.model.specs.declared.Answer.{Answer}
 use Rattle.model.specs.declared.Context.{Context}
 use Rattle.model.specs.declared.Call.{Call}
-use Rattle.model.specs.declared.Call.the-variants.{TaskCreate, TaskDelete, TaskActivate, TaskIactivate, TaskExit, TaskTerminate, TaskSuspend, TaskResume, TaskSleep, TaskWakeup, TaskIwakeup, TaskReleaseWait, TaskIreleaseWait, TaskChangePriority}
-use Rattle.model.specs.declared.Call.the-variants.{SysTsliceTicks, TickIntProcessing, SemCreate, SemDelete, SemSignal, SemIsignal, SemAcquire, SemPolling, SemIpolling, Event}
 use Rattle.model.specs.Task.{served, isWaiting, rowOf}
 use Rattle.model.specs.State.{task}
 use Rattle.model.specs.Code.{number}
 use Rattle.model.specs.Test.{one}
+use Rattle.ways.specs.Entry.{Entry, creation, deletion, release, acquisition, poll, none, entry}
 
 -- a kernel answers each call that comes to a state
 abbrev pub Kernel : Type 0
@@ -25,38 +24,7 @@ unfoldable pub reachedBy : Kernel → State → List (Context × Call) → State
 reachedBy k s [] = s
 reachedBy k s (a ∷ rest) = reachedBy k (k s (a .0) (a .1) .state) rest
 
--- ---- what a call is to a tally
-pub data Entry : Type 0 where
-  creation : ℕ → ℕ → Entry  -- of a semaphore, with its start value
-  deletion release acquisition poll : ℕ → Entry  -- of a semaphore
-  none : Entry
-
-abbrev pub entry : Call → Entry
-entry (TaskCreate t p o) = none
-entry (TaskDelete t) = none
-entry (TaskActivate t) = none
-entry (TaskIactivate t) = none
-entry TaskExit = none
-entry (TaskTerminate t) = none
-entry (TaskSuspend t) = none
-entry (TaskResume t) = none
-entry (TaskSleep d) = none
-entry (TaskWakeup t) = none
-entry (TaskIwakeup t) = none
-entry (TaskReleaseWait t) = none
-entry (TaskIreleaseWait t) = none
-entry (TaskChangePriority t p) = none
-entry (SysTsliceTicks l v) = none
-entry TickIntProcessing = none
-entry (SemCreate m n v) = creation m n
-entry (SemDelete m) = deletion m
-entry (SemSignal m) = release m
-entry (SemIsignal m) = release m
-entry (SemAcquire m d) = acquisition m
-entry (SemPolling m) = poll m
-entry (SemIpolling m) = poll m
-entry (Event f e) = none
-
+-- ---- entries; what a call is to a tally is said in Entry of ways
 -- the semaphore that it releases, else 0
 abbrev pub releasedBy : Entry → ℕ
 releasedBy (creation m n) = 0

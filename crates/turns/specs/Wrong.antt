@@ -7,7 +7,8 @@ use Rattle.model.specs.declared.State.{State}
 use Rattle.model.specs.declared.Answer.{Answer}
 use Rattle.model.specs.State.{count, maximum, counted}
 use Rattle.model.specs.Call.{step}
-use Rattle.turns.specs.Tally.{Kernel, Entry, creation, deletion, release, acquisition, poll, none, entry, releasedBy, waitsEnded}
+use Rattle.ways.specs.Entry.{Entry, creation, deletion, release, acquisition, poll, none, entry}
+use Rattle.turns.specs.Tally.{Kernel, releasedBy, waitsEnded}
 
 -- the answer, with another state
 abbrev pub withState : Answer → State → Answer

@@ -10,16 +10,17 @@ use Rattle.model.specs.declared.State.{State}
 use Rattle.model.specs.declared.Answer.{Answer}
 use Rattle.model.specs.declared.Context.{Context}
 use Rattle.model.specs.declared.Call.{Call}
-use Rattle.model.specs.Row.{bestFrom}
+use Rattle.model.specs.Row.{row, bestFrom}
 use Rattle.model.specs.Task.{noTask}
 use Rattle.model.specs.State.{fresh, running}
-use Rattle.model.specs.Call.{step}
+use Rattle.model.specs.Call.{stepFrom, step}
 use Rattle.kernel.specs.declared.Stepped.{Stepped}
-use Rattle.kernel.specs.Answer.{stepFrom}
 use Rattle.kernel.proofs.Stepping.{step-from, runs-on}
-use Rattle.stored.specs.Stored.{recordAt, recordsFrom, tasksOf}
+use Rattle.stored.specs.Stored.{recordsFrom, tasksOf}
 use Rattle.numbers.specs.Numbers.{part}
-use Rattle.effects.specs.Lent.{stateIn}
+use Rattle.rows.specs.Flat.{rowIn}
+use Rattle.queues.specs.Queues.{queuesFrom, queuesOf}
+use Rattle.tables.specs.Lent.{stateIn}
 use Rattle.lines.specs.declared.line.Line.{Line}
 use Rattle.lines.specs.declared.line.Line.the-variants.{Reads, Unreadable}
 use Rattle.lines.specs.Lines.{lineOf}
@@ -59,11 +60,11 @@ pub record Walked (wide : Bool) (file : List ℕ) (h at n run : ℕ) (s : State)
 
 -- before the first line: tables of zeros are the fresh state's, and there nobody runs
 blank : stateIn (replicate 250 0) (replicate 75 0) (replicate 744 0) (replicate 504 0) (replicate 107 0) ≡ fresh
-unfolding tasksOf recordsFrom recordAt part
+unfolding tasksOf recordsFrom queuesFrom rowIn part
 blank = refl
 
-idle : 0 ≡ bestFrom 30 1 (replicate 744 0)
-unfolding bestFrom
+idle : 0 ≡ bestFrom 30 1 (queuesOf 31 (replicate 744 0))
+unfolding bestFrom row queuesFrom rowIn
 idle = refl
 
 pub starts : (wide : Bool) (file : List ℕ) (h : ℕ) → 17 ≤ h → h ≤ length file
@@ -105,7 +106,7 @@ module _ (wide : Bool) (file : List ℕ) (h : ℕ) (rows : List Row) (at n run :
         let d : rest wide file at n ≡ next x c (rest wide file (at + m) (n + 1)) = script-next wide file at (n + 2) x c m more (k .0) g ∙ rw o in
         let p : a ≡ step s x c = step-from s run x c (w .runs) in
         let y : Row = record { code = a .code; running = a .running } in
-        let z : rowsBy step s (rest wide file at n) ≡ y ∷ rowsBy step (a .state) (rest wide file (at + m) (n + 1)) = rw (d, p) in (
+        let z : rowsBy step s (rest wide file at n) ≡ y ∷ rowsBy step (a .state) (rest wide file (at + m) (n + 1)) = rw (d, ← p) in (
           omega arith,
           record {
             inside = omega (arith, length-drop at file, k .1);

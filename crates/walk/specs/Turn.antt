@@ -1,11 +1,12 @@
 -- What playing one line gives: its answer and where the next line begins, or that it can't be read; and the state after it.
+-- It rests on the lines of lines and the step of model.
 use Prim.Native.Nat.{ℕ, _+_}
 use Rattle.model.specs.declared.State.{State}
 use Rattle.model.specs.declared.Answer.{Answer}
 use Rattle.lines.specs.declared.line.Line.{Line}
 use Rattle.lines.specs.declared.line.Line.the-variants.{Reads, Unreadable}
 use Rattle.kernel.specs.declared.Stepped.{Stepped}
-use Rattle.kernel.specs.Answer.{stepFrom}
+use Rattle.model.specs.Call.{stepFrom}
 use Rattle.walk.specs.declared.Turn.{Turn}
 use Rattle.walk.specs.declared.Turn.the-variants.{Plays, Faults}
 

@@ -1,10 +1,9 @@
 // One line of a list, played: read where it begins, stepped on the five tables. Whoever walks a list calls this in a loop and keeps
 // what its tool is for; Walking in proofs/ says of such a loop what was done and what is left.
 ghost use mathlib.Core.Path.{_≡_};
-ghost use Prim.Native.Nat.{_≤_};
-ghost use lib.ListN.{length, drop};
+ghost use lib.ListN.{drop};
 ghost use Rattle.lines.specs.Lines.{lineOf};
-ghost use Rattle.effects.specs.Lent.{before, after};
+ghost use Rattle.tables.specs.Lent.{before, after};
 ghost use Rattle.walk.specs.Turn.{turned, turnOf};
 use kernel::Stepped;
 use lines::line::Line;
@@ -16,6 +15,7 @@ pub enum Turn {
     Faults,
 }
 
+// The line that begins at `at`, where `run` runs; past the file's end there is none.
 pub fn play_line(
     bytes: &mut [u8; 250],
     words: &mut [u32; 75],
@@ -27,9 +27,11 @@ pub fn play_line(
     wide: bool,
     at: usize,
 ) -> Turn
-    requires { ⌜ at ≤ length (now file) ⌝ }
     ensures { λ r. ⌜ turned r (after bytes words levels waits numbers) ≡ turnOf run at (before bytes words levels waits numbers) (lineOf wide (drop at (now (file .entry)))) ⌝ }
 {
+    if file.len() < at {
+        return Turn::Faults;
+    }
     let Line::Reads {
         context,
         call,

@@ -1,16 +1,24 @@
-use borrow.Author.Tests.{eq-eqb, ne-eqb}
+-- `carry::charge_running` meets its contract: 0 has no level.
+use Rattle.carry.proofs.Arms as law
 use borrow.Author.Needs.{needs}
 use Rattle.carry.proofs.charge_running.Statement.{statement}
 use Rattle.carry.proofs.charge_running.Tie as tie
 
 returns : tie.Need-returns
-returns c = rw (eq-eqb _ _ (c .if1 .taken))
+returns c = law.idle _ _ (c .if1 .taken)
+
+record-at-requires : tie.Need-record-at-requires
+record-at-requires c κs = search needs
+
+cast-level : tie.Need-cast-level
+cast-level c = search needs
 
 charge-requires : tie.Need-charge-requires
 charge-requires c κs = search needs
 
 returns-2 : tie.Need-returns-2
-returns-2 c = rw (c .charge .ensures, ne-eqb _ _ (c .before .before .before .if1 .left))
+returns-2 c = law.runs _ _ _ _ (c .before .before .before .before .before .if1 .left) (c .before .before .before .before .record-at .ensures) (c .charge .ensures)
 
 pub charge-running-spec : {M : Type 1} → statement M
-charge-running-spec = tie.close (tie.spec returns charge-requires returns-2)
+charge-running-spec =
+    tie.close (tie.spec returns record-at-requires cast-level charge-requires returns-2)

@@ -1,3 +1,6 @@
+-- `carry::stop_task` meets its contract: with and without an activation that is counted.
+use mathlib.Core.Path.{refl, _∙_}
+use Rattle.tables.specs.Lent.{stateIn}
 use Rattle.carry.proofs.Arms as law
 use borrow.Author.Needs.{needs}
 use Rattle.carry.proofs.stop_task.Statement.{statement}
@@ -9,20 +12,20 @@ record-at-requires c κs = search needs
 dormant-requires : tie.Need-dormant-requires
 dormant-requires c κs = search needs
 
-move-task-requires : tie.Need-move-task-requires
-move-task-requires c κs = search needs
+move-from-requires : tie.Need-move-from-requires
+move-from-requires c κs = search needs
 
 returns : tie.Need-returns
-returns c = law.rests _ _ _ _ _ (c .before .before .before .before .before .before .before .record-at .ensures) (c .before .before .before .before .before .before .dormant .ensures) (c .before .move-task .ensures) (c .if1 .taken)
+returns c = law.rests (stateIn _ _ _ _ _) _ _ _ _ (c .before .before .before .before .before .before .before .record-at .ensures) (c .before .before .before .before .before .before .dormant .ensures) (c .before .move-from .ensures) (c .if1 .taken)
 
 activated-requires : tie.Need-activated-requires
 activated-requires c κs = search needs
 
-move-task-requires-2 : tie.Need-move-task-requires-2
-move-task-requires-2 c κs = search needs
+move-task-requires : tie.Need-move-task-requires
+move-task-requires c κs = search needs
 
 returns-2 : tie.Need-returns-2
-returns-2 c = law.starts _ _ _ _ _ (c .before .before .before .before .before .before .before .before .before .before .before .before .before .record-at .ensures) (c .before .before .before .before .before .before .before .before .before .before .before .before .dormant .ensures) (c .before .before .before .before .before .before .before .move-task .ensures) _ _ (c .before .before .before .before .before .before .if1 .left) (c .before .activated .ensures) (c .move-task2 .ensures)
+returns-2 c = law.starts (stateIn _ _ _ _ _) _ _ _ _ (c .before .before .before .before .before .before .before .before .before .before .before .before .before .record-at .ensures) (c .before .before .before .before .before .before .before .before .before .before .before .before .dormant .ensures) (c .before .before .before .before .before .before .before .move-from .ensures) _ _ (c .before .before .before .before .before .before .if1 .left) (c .before .before .before .before .before .activated .ensures) (c .move-task .ensures)
 
 pub stop-task-spec : {M : Type 1} → statement M
 stop-task-spec =
@@ -30,8 +33,8 @@ stop-task-spec =
     (tie.spec
     record-at-requires
     dormant-requires
-    move-task-requires
+    move-from-requires
     returns
     activated-requires
-    move-task-requires-2
+    move-task-requires
     returns-2)

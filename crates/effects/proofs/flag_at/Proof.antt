@@ -1,23 +1,29 @@
+-- `effects::flag_at` meets its contract: by the contracts of what it reads.
 use borrow.Author.Needs.{needs}
 use Rattle.effects.proofs.flag_at.Statement.{statement}
 use Rattle.effects.proofs.flag_at.Tie as tie
 
-number-at-requires : tie.Need-number-at-requires
-number-at-requires c κs = search needs
+attributes-at-requires : tie.Need-attributes-at-requires
+attributes-at-requires c κs = search needs
 
-number-at-requires-2 : tie.Need-number-at-requires-2
-number-at-requires-2 c κs = search needs
+bits-at-requires : tie.Need-bits-at-requires
+bits-at-requires c κs = search needs
 
 flag-row-requires : tie.Need-flag-row-requires
 flag-row-requires c κs = search needs
 
-first-of-requires : tie.Need-first-of-requires
-first-of-requires c κs = search needs
+first-waiter-requires : tie.Need-first-waiter-requires
+first-waiter-requires c κs = search needs
 
 returns : tie.Need-returns
-returns c = rw (c .first-of .ensures, c .before .flag-row .ensures, c .before .before .before .number-at2 .ensures, c .before .before .before .before .before .number-at .ensures)
+returns c = rw (c .first-waiter .ensures, c .before .flag-row .ensures, c .before .before .bits-at .ensures, c .before .before .before .attributes-at .ensures)
 
 pub flag-at-spec : {M : Type 1} → statement M
 flag-at-spec =
     tie.close
-    (tie.spec number-at-requires number-at-requires-2 flag-row-requires first-of-requires returns)
+    (tie.spec
+    attributes-at-requires
+    bits-at-requires
+    flag-row-requires
+    first-waiter-requires
+    returns)

@@ -1,3 +1,4 @@
+-- `effects::move_task` meets its contract: the record that it reads is the task's.
 use mathlib.Core.Path.{_∙_}
 use Rattle.effects.proofs.Moving as law
 use borrow.Author.Needs.{needs}

@@ -1,3 +1,4 @@
+-- `effects::tell_all` meets its contract: the invariant: what is left to tell makes of the tables what the whole makes of them at entry.
 use Prim.Native.Nat.{_≤_, _-_}
 use mathlib.Core.Path.{_≡_, refl, sym, _∙_}
 use borrow.Author.Needs.{needs}
@@ -5,7 +6,7 @@ use borrow.Author.Tests.{not-true}
 use native.Mathlib.Omega.{arith}
 use lib.ListN.{length, drop}
 use Rattle.model.specs.Effect.{lapsed, toldAll}
-use Rattle.effects.specs.Lent.{stateIn}
+use Rattle.tables.specs.Lent.{stateIn}
 use Rattle.effects.proofs.Moving as moving
 use Rattle.effects.proofs.Falling as law
 use Rattle.effects.proofs.tell_all.Statement.{statement}

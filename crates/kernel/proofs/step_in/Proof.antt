@@ -1,4 +1,5 @@
-use Rattle.effects.specs.Lent.{stateIn}
+-- `kernel::step_in` meets its contract: the plan, then its effect.
+use Rattle.tables.specs.Lent.{stateIn}
 use Rattle.kernel.proofs.Stepping as law
 use borrow.Author.Needs.{needs}
 use Rattle.kernel.proofs.step_in.Statement.{statement}
@@ -19,6 +20,9 @@ subject-requires c κs = search needs
 record-at-requires : tie.Need-record-at-requires
 record-at-requires c κs = search needs
 
+is-mine-requires : tie.Need-is-mine-requires
+is-mine-requires c κs = search needs
+
 plan-requires : tie.Need-plan-requires
 plan-requires c κs = search needs
 
@@ -29,7 +33,7 @@ best-requires : tie.Need-best-requires
 best-requires c κs = search needs
 
 returns : tie.Need-returns
-returns c = let a = c .before .before .before .before .before .before .before .before .before .before .before .before .before .before .before .before .before .before .before .before .before .args in law.stepped (stateIn (a .bytes .now) (a .words .now) (a .levels .now) (a .waits .now) (a .numbers .now)) (a .c) (a .a) (a .run) _ _ _ _ _ _ _ _ (c .before .before .before .before .before .before .before .before .before .before .before .before .before .before .before .before .before .before .before .before .named .ensures) (c .before .before .before .before .before .before .before .before .before .before .before .before .before .before .before .before .before .semaphore-at .ensures) (c .before .before .before .before .before .before .before .before .before .before .before .before .before .before .flag-at .ensures) (c .before .before .before .before .before .before .before .before .before .before .before .subject .ensures) (c .before .before .before .before .before .before .before .before .before .before .record-at .ensures) (c .before .before .before .before .before .before .before .before .before .plan .ensures) (c .before .before .before .carry .ensures) (c .best .ensures)
+returns c = law.stepped (stateIn (c .before .before .before .before .before .before .before .before .before .before .before .before .before .before .before .before .before .before .before .before .before .args .bytes .now) (c .before .before .before .before .before .before .before .before .before .before .before .before .before .before .before .before .before .before .before .before .before .args .words .now) (c .before .before .before .before .before .before .before .before .before .before .before .before .before .before .before .before .before .before .before .before .before .args .levels .now) (c .before .before .before .before .before .before .before .before .before .before .before .before .before .before .before .before .before .before .before .before .before .args .waits .now) (c .before .before .before .before .before .before .before .before .before .before .before .before .before .before .before .before .before .before .before .before .before .args .numbers .now)) (c .before .before .before .before .before .before .before .before .before .before .before .before .before .before .before .before .before .before .before .before .before .args .c) (c .before .before .before .before .before .before .before .before .before .before .before .before .before .before .before .before .before .before .before .before .before .args .a) (c .before .before .before .before .before .before .before .before .before .before .before .before .before .before .before .before .before .before .before .before .before .args .run) _ _ _ _ _ _ _ _ _ (c .before .before .before .before .before .before .before .before .before .before .before .before .before .before .before .before .before .before .before .before .named .ensures) (c .before .before .before .before .before .before .before .before .before .before .before .before .before .before .before .before .before .semaphore-at .ensures) (c .before .before .before .before .before .before .before .before .before .before .before .before .before .before .flag-at .ensures) (c .before .before .before .before .before .before .before .before .before .before .before .subject .ensures) (c .before .before .before .before .before .before .before .before .before .before .record-at .ensures) (c .before .before .before .before .before .before .before .before .before .is-mine .ensures) (c .before .before .before .before .before .before .before .before .plan .ensures) (c .before .before .carry .ensures) (c .best .ensures)
 
 pub step-in-spec : {M : Type 1} → statement M
 step-in-spec =
@@ -40,6 +44,7 @@ step-in-spec =
     flag-at-requires
     subject-requires
     record-at-requires
+    is-mine-requires
     plan-requires
     carry-requires
     best-requires

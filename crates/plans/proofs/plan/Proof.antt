@@ -5,12 +5,6 @@ use Rattle.model.specs.Call.{plan}
 use Rattle.plans.proofs.plan.Statement.{statement}
 use Rattle.plans.proofs.plan.Tie as tie
 
-in-t-requires : tie.Need-in-t-requires
-in-t-requires c κs = search needs
-
-in-i-requires : tie.Need-in-i-requires
-in-i-requires c κs = search needs
-
 enum-known-a : tie.Need-enum-known-a
 enum-known-a c = search needs
 
@@ -157,95 +151,95 @@ event-plan-requires c κs = search needs
 
 returns : tie.Need-returns
 unfolding plan
-returns c = rw (c .create .ensures, c .before .before .before .before .before .in-t .ensures, c .before .before .a .given .1)
+returns c = rw (c .create .ensures, c .before .before .a .given .1)
 
 returns-2 : tie.Need-returns-2
 unfolding plan
-returns-2 c = rw (c .delete .ensures, c .before .before .before .before .before .in-t .ensures, c .before .before .a2 .given .1)
+returns-2 c = rw (c .delete .ensures, c .before .before .a2 .given .1)
 
 returns-3 : tie.Need-returns-3
 unfolding plan
-returns-3 c = rw (c .activate .ensures, c .before .before .before .before .before .in-t .ensures, c .before .before .a3 .given .1)
+returns-3 c = rw (c .activate .ensures, c .before .before .a3 .given .1)
 
 returns-4 : tie.Need-returns-4
 unfolding plan
-returns-4 c = rw (c .activate2 .ensures, c .before .before .before .before .in-i .ensures, c .before .before .a4 .given .1)
+returns-4 c = rw (c .activate2 .ensures, c .before .before .a4 .given .1)
 
 returns-5 : tie.Need-returns-5
 unfolding plan
-returns-5 c = rw (c .exit .ensures, c .before .before .before .before .in-t .ensures, c .before .enum-told .given .1)
+returns-5 c = rw (c .exit .ensures, c .before .enum-told .given .1)
 
 returns-6 : tie.Need-returns-6
 unfolding plan
-returns-6 c = rw (c .terminate .ensures, c .before .before .before .before .before .in-t .ensures, c .before .before .a5 .given .1)
+returns-6 c = rw (c .terminate .ensures, c .before .before .a5 .given .1)
 
 returns-7 : tie.Need-returns-7
 unfolding plan
-returns-7 c = rw (c .suspend .ensures, c .before .before .before .before .before .in-t .ensures, c .before .before .a6 .given .1)
+returns-7 c = rw (c .suspend .ensures, c .before .before .a6 .given .1)
 
 returns-8 : tie.Need-returns-8
 unfolding plan
-returns-8 c = rw (c .resume .ensures, c .before .before .before .before .before .in-t .ensures, c .before .before .a7 .given .1)
+returns-8 c = rw (c .resume .ensures, c .before .before .a7 .given .1)
 
 returns-9 : tie.Need-returns-9
 unfolding plan
-returns-9 c = rw (c .sleep .ensures, c .before .before .before .before .before .in-t .ensures, c .before .before .a8 .given .1)
+returns-9 c = rw (c .sleep .ensures, c .before .before .a8 .given .1)
 
 returns-10 : tie.Need-returns-10
 unfolding plan
-returns-10 c = rw (c .wakeup .ensures, c .before .before .before .before .before .in-t .ensures, c .before .before .a9 .given .1)
+returns-10 c = rw (c .wakeup .ensures, c .before .before .a9 .given .1)
 
 returns-11 : tie.Need-returns-11
 unfolding plan
-returns-11 c = rw (c .wakeup2 .ensures, c .before .before .before .before .in-i .ensures, c .before .before .a10 .given .1)
+returns-11 c = rw (c .wakeup2 .ensures, c .before .before .a10 .given .1)
 
 returns-12 : tie.Need-returns-12
 unfolding plan
-returns-12 c = rw (c .release-wait .ensures, c .before .before .before .before .before .in-t .ensures, c .before .before .a11 .given .1)
+returns-12 c = rw (c .release-wait .ensures, c .before .before .a11 .given .1)
 
 returns-13 : tie.Need-returns-13
 unfolding plan
-returns-13 c = rw (c .release-wait2 .ensures, c .before .before .before .before .in-i .ensures, c .before .before .a12 .given .1)
+returns-13 c = rw (c .release-wait2 .ensures, c .before .before .a12 .given .1)
 
 returns-14 : tie.Need-returns-14
 unfolding plan
-returns-14 c = rw (c .change-priority .ensures, c .before .before .before .before .before .in-t .ensures, c .before .before .a13 .given .1)
+returns-14 c = rw (c .change-priority .ensures, c .before .before .a13 .given .1)
 
 returns-15 : tie.Need-returns-15
 unfolding plan
-returns-15 c = rw (c .tslice-ticks .ensures, c .before .before .before .before .before .in-t .ensures, c .before .before .a14 .given .1)
+returns-15 c = rw (c .tslice-ticks .ensures, c .before .before .a14 .given .1)
 
 returns-16 : tie.Need-returns-16
 unfolding plan
-returns-16 c = rw (c .tick .ensures, c .before .before .before .in-i .ensures, c .before .enum-told2 .given .1)
+returns-16 c = rw (c .tick .ensures, c .before .enum-told2 .given .1)
 
 returns-17 : tie.Need-returns-17
 unfolding plan
-returns-17 c = rw (c .sem-create .ensures, c .before .before .before .before .before .in-t .ensures, c .before .before .a15 .given .1)
+returns-17 c = rw (c .sem-create .ensures, c .before .before .a15 .given .1)
 
 returns-18 : tie.Need-returns-18
 unfolding plan
-returns-18 c = rw (c .sem-delete .ensures, c .before .before .before .before .before .in-t .ensures, c .before .before .a16 .given .1)
+returns-18 c = rw (c .sem-delete .ensures, c .before .before .a16 .given .1)
 
 returns-19 : tie.Need-returns-19
 unfolding plan
-returns-19 c = rw (c .signal .ensures, c .before .before .before .before .before .in-t .ensures, c .before .before .a17 .given .1)
+returns-19 c = rw (c .signal .ensures, c .before .before .a17 .given .1)
 
 returns-20 : tie.Need-returns-20
 unfolding plan
-returns-20 c = rw (c .signal2 .ensures, c .before .before .before .before .in-i .ensures, c .before .before .a18 .given .1)
+returns-20 c = rw (c .signal2 .ensures, c .before .before .a18 .given .1)
 
 returns-21 : tie.Need-returns-21
 unfolding plan
-returns-21 c = rw (c .acquire .ensures, c .before .before .before .before .before .in-t .ensures, c .before .before .a19 .given .1)
+returns-21 c = rw (c .acquire .ensures, c .before .before .a19 .given .1)
 
 returns-22 : tie.Need-returns-22
 unfolding plan
-returns-22 c = rw (c .polling .ensures, c .before .before .before .before .before .in-t .ensures, c .before .before .a20 .given .1)
+returns-22 c = rw (c .polling .ensures, c .before .before .a20 .given .1)
 
 returns-23 : tie.Need-returns-23
 unfolding plan
-returns-23 c = rw (c .polling2 .ensures, c .before .before .before .before .in-i .ensures, c .before .before .a21 .given .1)
+returns-23 c = rw (c .polling2 .ensures, c .before .before .a21 .given .1)
 
 returns-24 : tie.Need-returns-24
 unfolding plan
@@ -255,8 +249,6 @@ pub plan-spec : {M : Type 1} → statement M
 plan-spec =
     tie.close
     (tie.spec
-    in-t-requires
-    in-i-requires
     enum-known-a
     create-requires
     enum-known-a-2

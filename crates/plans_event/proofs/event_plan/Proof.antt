@@ -5,12 +5,6 @@ use Rattle.model.specs.Call.{eventPlan}
 use Rattle.plans_event.proofs.event_plan.Statement.{statement}
 use Rattle.plans_event.proofs.event_plan.Tie as tie
 
-in-t-requires : tie.Need-in-t-requires
-in-t-requires c κs = search needs
-
-in-i-requires : tie.Need-in-i-requires
-in-i-requires c κs = search needs
-
 enum-known-service : tie.Need-enum-known-service
 enum-known-service c = search needs
 
@@ -67,46 +61,44 @@ event-poll-requires-2 c κs = search needs
 
 returns : tie.Need-returns
 unfolding eventPlan
-returns c = rw (c .event-create .ensures, c .before .before .before .before .before .in-t .ensures, c .before .before .service .given .1)
+returns c = rw (c .event-create .ensures, c .before .before .service .given .1)
 
 returns-2 : tie.Need-returns-2
 unfolding eventPlan
-returns-2 c = rw (c .event-delete .ensures, c .before .before .before .before .in-t .ensures, c .before .enum-told .given .1)
+returns-2 c = rw (c .event-delete .ensures, c .before .enum-told .given .1)
 
 returns-3 : tie.Need-returns-3
 unfolding eventPlan
-returns-3 c = rw (c .event-set .ensures, c .before .before .before .before .before .in-t .ensures, c .before .before .service2 .given .1)
+returns-3 c = rw (c .event-set .ensures, c .before .before .service2 .given .1)
 
 returns-4 : tie.Need-returns-4
 unfolding eventPlan
-returns-4 c = rw (c .event-set2 .ensures, c .before .before .before .before .in-i .ensures, c .before .before .service3 .given .1)
+returns-4 c = rw (c .event-set2 .ensures, c .before .before .service3 .given .1)
 
 returns-5 : tie.Need-returns-5
 unfolding eventPlan
-returns-5 c = rw (c .event-clear .ensures, c .before .before .before .before .before .in-t .ensures, c .before .before .service4 .given .1)
+returns-5 c = rw (c .event-clear .ensures, c .before .before .service4 .given .1)
 
 returns-6 : tie.Need-returns-6
 unfolding eventPlan
-returns-6 c = rw (c .event-clear2 .ensures, c .before .before .before .before .in-i .ensures, c .before .before .service5 .given .1)
+returns-6 c = rw (c .event-clear2 .ensures, c .before .before .service5 .given .1)
 
 returns-7 : tie.Need-returns-7
 unfolding eventPlan
-returns-7 c = rw (c .event-wait .ensures, c .before .before .before .before .before .in-t .ensures, c .before .before .service6 .given .1)
+returns-7 c = rw (c .event-wait .ensures, c .before .before .service6 .given .1)
 
 returns-8 : tie.Need-returns-8
 unfolding eventPlan
-returns-8 c = rw (c .event-poll .ensures, c .before .before .before .before .before .in-t .ensures, c .before .before .service7 .given .1)
+returns-8 c = rw (c .event-poll .ensures, c .before .before .service7 .given .1)
 
 returns-9 : tie.Need-returns-9
 unfolding eventPlan
-returns-9 c = rw (c .event-poll2 .ensures, c .before .before .before .before .in-i .ensures, c .before .before .service8 .given .1)
+returns-9 c = rw (c .event-poll2 .ensures, c .before .before .service8 .given .1)
 
 pub event-plan-spec : {M : Type 1} → statement M
 event-plan-spec =
     tie.close
     (tie.spec
-    in-t-requires
-    in-i-requires
     enum-known-service
     event-create-requires
     enum-told

@@ -1,80 +1,56 @@
--- `plans_event::event_wait` meets its contract: test by test.
--- It rests on the contracts of what it calls, and on the laws of tests.
+-- `plans_event::event_wait` meets its contract: what every call has in common, then test by test.
+-- It rests on the contracts of what it calls, on the laws of the checks, and on those of tests.
 use native.Mathlib.Omega.{arith}
 use borrow.Author.Needs.{needs}
-use borrow.Author.Tests.{eq-eqb, ne-eqb, le-leb, lt-leb, not-true, not-false}
+use borrow.Author.Tests.{eq-eqb, ne-eqb, leb-true}
+use mathlib.Core.Bool.{not}
+use lib.Dec.{eqb}
 use Rattle.model.specs.Service.{eventWait}
-use Rattle.checks.proofs.Laws.{fails, holds, within-top}
+use Rattle.checks.proofs.Laws.{refuses, passes, is-right, and-left, and-right, within-top}
 use Rattle.plans_event.proofs.event_wait.Statement.{statement}
 use Rattle.plans_event.proofs.event_wait.Tie as tie
 
 is-flag-requires : tie.Need-is-flag-requires
 is-flag-requires c κs = search needs
 
+is-timeout-requires : tie.Need-is-timeout-requires
+is-timeout-requires c κs = search needs
+
+checked-requires : tie.Need-checked-requires
+checked-requires c κs = search needs
+
+enum-known-gate : tie.Need-enum-known-gate
+enum-known-gate c = search needs
+
 refused-requires : tie.Need-refused-requires
 refused-requires c κs = search needs
 
 returns : tie.Need-returns
 unfolding eventWait
-returns c = rw (c .refused .ensures, fails (c .before .before .is-flag .ensures) (c .before .if1 .taken))
+returns c = rw (c .refused .ensures, ← c .before .before .before .before .before .before .before .is-flag .ensures, ← c .before .before .before .before .before .before .is-timeout .ensures, refuses _ _ _ (c .before .before .before .before .checked .ensures) (c .before .before .gate .given .1))
+
+enum-told : tie.Need-enum-told
+enum-told c = search needs
 
 refused-requires-2 : tie.Need-refused-requires-2
 refused-requires-2 c κs = search needs
 
 returns-2 : tie.Need-returns-2
 unfolding eventWait
-returns-2 c = rw (c .refused2 .ensures, holds (c .before .before .before .is-flag .ensures) (c .before .before .if1 .left), eq-eqb _ _ (c .before .if2 .taken))
+returns-2 c = rw (c .refused2 .ensures, ← c .before .before .before .before .before .before .before .is-flag .ensures, ← c .before .before .before .before .before .before .is-timeout .ensures, passes _ _ _ (c .before .before .before .before .checked .ensures) (c .before .before .enum-told .given .1), eq-eqb _ _ (c .before .if1 .taken))
+
+is-occupied-requires : tie.Need-is-occupied-requires
+is-occupied-requires c κs = search needs
 
 refused-requires-3 : tie.Need-refused-requires-3
 refused-requires-3 c κs = search needs
 
 returns-3 : tie.Need-returns-3
 unfolding eventWait
-returns-3 c = rw (c .refused3 .ensures, holds (c .before .before .before .before .is-flag .ensures) (c .before .before .before .if1 .left), ne-eqb _ _ (c .before .before .if2 .left), lt-leb _ _ (c .before .if3 .taken))
-
-is-timeout-requires : tie.Need-is-timeout-requires
-is-timeout-requires c κs = search needs
-
-refused-requires-4 : tie.Need-refused-requires-4
-refused-requires-4 c κs = search needs
-
-returns-4 : tie.Need-returns-4
-unfolding eventWait
-returns-4 c = rw (c .refused4 .ensures, holds (c .before .before .before .before .before .before .is-flag .ensures) (c .before .before .before .before .before .if1 .left), ne-eqb _ _ (c .before .before .before .before .if2 .left), le-leb _ _ (c .before .before .before .if3 .left), fails (c .before .before .is-timeout .ensures) (c .before .if4 .taken))
-
-refused-requires-5 : tie.Need-refused-requires-5
-refused-requires-5 c κs = search needs
-
-returns-5 : tie.Need-returns-5
-unfolding eventWait
-returns-5 c = rw (c .refused5 .ensures, holds (c .before .before .before .before .before .before .before .is-flag .ensures) (c .before .before .before .before .before .before .if1 .left), ne-eqb _ _ (c .before .before .before .before .before .if2 .left), le-leb _ _ (c .before .before .before .before .if3 .left), holds (c .before .before .before .is-timeout .ensures) (c .before .before .if4 .left), eq-eqb _ _ (c .before .if5 .taken))
-
-refused-requires-6 : tie.Need-refused-requires-6
-refused-requires-6 c κs = search needs
-
-returns-6 : tie.Need-returns-6
-unfolding eventWait
-returns-6 c = rw (c .refused6 .ensures, holds (c .before .before .before .before .before .before .before .before .is-flag .ensures) (c .before .before .before .before .before .before .before .if1 .left), ne-eqb _ _ (c .before .before .before .before .before .before .if2 .left), le-leb _ _ (c .before .before .before .before .before .if3 .left), holds (c .before .before .before .before .is-timeout .ensures) (c .before .before .before .if4 .left), ne-eqb _ _ (c .before .before .if5 .left), not-true (c .before .before .before .before .before .before .before .before .before .args .mine) (c .before .if6 .taken))
-
-refused-requires-7 : tie.Need-refused-requires-7
-refused-requires-7 c κs = search needs
-
-returns-7 : tie.Need-returns-7
-unfolding eventWait
-returns-7 c = rw (c .refused7 .ensures, holds (c .before .before .before .before .before .before .before .before .before .is-flag .ensures) (c .before .before .before .before .before .before .before .before .if1 .left), ne-eqb _ _ (c .before .before .before .before .before .before .before .if2 .left), le-leb _ _ (c .before .before .before .before .before .before .if3 .left), holds (c .before .before .before .before .before .is-timeout .ensures) (c .before .before .before .before .if4 .left), ne-eqb _ _ (c .before .before .before .if5 .left), not-false (c .before .before .before .before .before .before .before .before .before .before .args .mine) (c .before .before .if6 .left), eq-eqb _ _ (c .before .if7 .taken))
-
-is-occupied-requires : tie.Need-is-occupied-requires
-is-occupied-requires c κs = search needs
-
-refused-requires-8 : tie.Need-refused-requires-8
-refused-requires-8 c κs = search needs
-
-returns-8 : tie.Need-returns-8
-unfolding eventWait
-returns-8 c = rw (c .refused8 .ensures, holds (c .before .before .before .before .before .before .before .before .before .before .before .is-flag .ensures) (c .before .before .before .before .before .before .before .before .before .before .if1 .left), ne-eqb _ _ (c .before .before .before .before .before .before .before .before .before .if2 .left), le-leb _ _ (c .before .before .before .before .before .before .before .before .if3 .left), holds (c .before .before .before .before .before .before .before .is-timeout .ensures) (c .before .before .before .before .before .before .if4 .left), ne-eqb _ _ (c .before .before .before .before .before .if5 .left), not-false (c .before .before .before .before .before .before .before .before .before .before .before .before .args .mine) (c .before .before .before .before .if6 .left), ne-eqb _ _ (c .before .before .before .if7 .left), ← c .before .before .is-occupied .ensures, c .before .if8 .taken)
+returns-3 c = rw (c .refused3 .ensures, ← c .before .before .before .before .before .before .before .before .before .is-flag .ensures, ← c .before .before .before .before .before .before .before .before .is-timeout .ensures, passes _ _ _ (c .before .before .before .before .before .before .checked .ensures) (c .before .before .before .before .enum-told .given .1), ne-eqb _ _ (c .before .before .before .if1 .left), ← c .before .before .is-occupied .ensures, c .before .if2 .taken)
 
 cast-f : tie.Need-cast-f
-cast-f c = omega (arith, within-top _ _ _ (holds (c .before .before .before .before .before .before .before .before .before .before .is-flag .ensures) (c .before .before .before .before .before .before .before .before .before .if1 .left)))
+cast-f c = omega (arith, within-top _ _ _ (c .before .before .before .before .before .before .before .before .is-flag .ensures) (and-left _ _ (is-right _ _ _ (c .before .before .before .before .before .checked .ensures) (c .before .before .before .enum-told .given .1))))
 
 is-met-requires : tie.Need-is-met-requires
 is-met-requires c κs = search needs
@@ -82,12 +58,15 @@ is-met-requires c κs = search needs
 taken-requires : tie.Need-taken-requires
 taken-requires c κs = search needs
 
-returns-9 : tie.Need-returns-9
+returns-4 : tie.Need-returns-4
 unfolding eventWait
-returns-9 c = rw (c .taken .ensures, holds (c .before .before .before .before .before .before .before .before .before .before .before .before .before .is-flag .ensures) (c .before .before .before .before .before .before .before .before .before .before .before .before .if1 .left), ne-eqb _ _ (c .before .before .before .before .before .before .before .before .before .before .before .if2 .left), le-leb _ _ (c .before .before .before .before .before .before .before .before .before .before .if3 .left), holds (c .before .before .before .before .before .before .before .before .before .is-timeout .ensures) (c .before .before .before .before .before .before .before .before .if4 .left), ne-eqb _ _ (c .before .before .before .before .before .before .before .if5 .left), not-false (c .before .before .before .before .before .before .before .before .before .before .before .before .before .before .args .mine) (c .before .before .before .before .before .before .if6 .left), ne-eqb _ _ (c .before .before .before .before .before .if7 .left), ← c .before .before .before .before .is-occupied .ensures, c .before .before .before .if8 .left, ← c .before .before .is-met .ensures, c .before .if9 .taken)
+returns-4 c = rw (c .taken .ensures, ← c .before .before .before .before .before .before .before .before .before .before .before .is-flag .ensures, ← c .before .before .before .before .before .before .before .before .before .before .is-timeout .ensures, passes _ _ _ (c .before .before .before .before .before .before .before .before .checked .ensures) (c .before .before .before .before .before .before .enum-told .given .1), ne-eqb _ _ (c .before .before .before .before .before .if1 .left), ← c .before .before .before .before .is-occupied .ensures, c .before .before .before .if2 .left, ← c .before .before .is-met .ensures, c .before .if3 .taken)
 
 cast-m : tie.Need-cast-m
-cast-m c = search needs
+cast-m c = omega (arith, leb-true (c .before .before .before .before .before .before .before .before .before .before .before .args .mode) 1 (and-left _ _ (and-right (not (eqb (c .before .before .before .before .before .before .before .before .before .before .before .args .pattern) 0)) _ (and-right (c .before .before .before .before .before .before .before .before .before .before .is-flag .result) _ (is-right _ _ _ (c .before .before .before .before .before .before .before .checked .ensures) (c .before .before .before .before .before .enum-told .given .1))))))
+
+on-flag-requires : tie.Need-on-flag-requires
+on-flag-requires c κs = search needs
 
 waiting-requires : tie.Need-waiting-requires
 waiting-requires c κs = search needs
@@ -95,38 +74,32 @@ waiting-requires c κs = search needs
 pending-requires : tie.Need-pending-requires
 pending-requires c κs = search needs
 
-returns-10 : tie.Need-returns-10
+returns-5 : tie.Need-returns-5
 unfolding eventWait
-returns-10 c = rw (c .pending .ensures, c .before .waiting .ensures, holds (c .before .before .before .before .before .before .before .before .before .before .before .before .before .before .is-flag .ensures) (c .before .before .before .before .before .before .before .before .before .before .before .before .before .if1 .left), ne-eqb _ _ (c .before .before .before .before .before .before .before .before .before .before .before .before .if2 .left), le-leb _ _ (c .before .before .before .before .before .before .before .before .before .before .before .if3 .left), holds (c .before .before .before .before .before .before .before .before .before .before .is-timeout .ensures) (c .before .before .before .before .before .before .before .before .before .if4 .left), ne-eqb _ _ (c .before .before .before .before .before .before .before .before .if5 .left), not-false (c .before .before .before .before .before .before .before .before .before .before .before .before .before .before .before .args .mine) (c .before .before .before .before .before .before .before .if6 .left), ne-eqb _ _ (c .before .before .before .before .before .before .if7 .left), ← c .before .before .before .before .before .is-occupied .ensures, c .before .before .before .before .if8 .left, ← c .before .before .before .is-met .ensures, c .before .before .if9 .left)
+returns-5 c = rw (c .pending .ensures, c .before .waiting .ensures, c .before .before .on-flag .ensures, ← c .before .before .before .before .before .before .before .before .before .before .before .before .before .is-flag .ensures, ← c .before .before .before .before .before .before .before .before .before .before .before .before .is-timeout .ensures, passes _ _ _ (c .before .before .before .before .before .before .before .before .before .before .checked .ensures) (c .before .before .before .before .before .before .before .before .enum-told .given .1), ne-eqb _ _ (c .before .before .before .before .before .before .before .if1 .left), ← c .before .before .before .before .before .before .is-occupied .ensures, c .before .before .before .before .before .if2 .left, ← c .before .before .before .before .is-met .ensures, c .before .before .before .if3 .left)
 
 pub event-wait-spec : {M : Type 1} → statement M
 event-wait-spec =
     tie.close
     (tie.spec
     is-flag-requires
+    is-timeout-requires
+    checked-requires
+    enum-known-gate
     refused-requires
     returns
+    enum-told
     refused-requires-2
     returns-2
+    is-occupied-requires
     refused-requires-3
     returns-3
-    is-timeout-requires
-    refused-requires-4
-    returns-4
-    refused-requires-5
-    returns-5
-    refused-requires-6
-    returns-6
-    refused-requires-7
-    returns-7
-    is-occupied-requires
-    refused-requires-8
-    returns-8
     cast-f
     is-met-requires
     taken-requires
-    returns-9
+    returns-4
     cast-m
+    on-flag-requires
     waiting-requires
     pending-requires
-    returns-10)
+    returns-5)

@@ -1,56 +1,47 @@
--- `plans_semaphore::acquire` meets its contract: test by test; a count of 0 begins a wait.
--- It rests on the contracts of what it calls, and on the laws of tests.
+-- `plans_semaphore::acquire` meets its contract: what every call has in common, then test by test.
+-- It rests on the contracts of what it calls, on the laws of the checks, and on those of tests.
 use native.Mathlib.Omega.{arith}
 use borrow.Author.Needs.{needs}
-use borrow.Author.Tests.{eq-eqb, ne-eqb, not-true, not-false}
+use borrow.Author.Tests.{eq-eqb, ne-eqb}
 use Rattle.model.specs.Service.{acquire}
-use Rattle.checks.proofs.Laws.{fails, holds, within-top}
+use Rattle.checks.proofs.Laws.{refuses, passes, is-right, and-left, within-top}
 use Rattle.plans_semaphore.proofs.acquire.Statement.{statement}
 use Rattle.plans_semaphore.proofs.acquire.Tie as tie
 
 is-semaphore-requires : tie.Need-is-semaphore-requires
 is-semaphore-requires c κs = search needs
 
+is-timeout-requires : tie.Need-is-timeout-requires
+is-timeout-requires c κs = search needs
+
+checked-requires : tie.Need-checked-requires
+checked-requires c κs = search needs
+
+enum-known-gate : tie.Need-enum-known-gate
+enum-known-gate c = search needs
+
 refused-requires : tie.Need-refused-requires
 refused-requires c κs = search needs
 
 returns : tie.Need-returns
 unfolding acquire
-returns c = rw (c .refused .ensures, fails (c .before .before .is-semaphore .ensures) (c .before .if1 .taken))
+returns c = rw (c .refused .ensures, ← c .before .before .before .before .before .before .before .is-semaphore .ensures, ← c .before .before .before .before .before .before .is-timeout .ensures, refuses _ _ _ (c .before .before .before .before .checked .ensures) (c .before .before .gate .given .1))
 
-is-timeout-requires : tie.Need-is-timeout-requires
-is-timeout-requires c κs = search needs
+enum-told : tie.Need-enum-told
+enum-told c = search needs
+
+cast-m : tie.Need-cast-m
+cast-m c = omega (arith, within-top _ _ _ (c .before .before .before .before .before .is-semaphore .ensures) (and-left _ _ (is-right _ _ _ (c .before .before .checked .ensures) (c .enum-told .given .1))))
 
 refused-requires-2 : tie.Need-refused-requires-2
 refused-requires-2 c κs = search needs
 
 returns-2 : tie.Need-returns-2
 unfolding acquire
-returns-2 c = rw (c .refused2 .ensures, holds (c .before .before .before .before .is-semaphore .ensures) (c .before .before .before .if1 .left), fails (c .before .before .is-timeout .ensures) (c .before .if2 .taken))
+returns-2 c = rw (c .refused2 .ensures, ← c .before .before .before .before .before .before .before .is-semaphore .ensures, ← c .before .before .before .before .before .before .is-timeout .ensures, passes _ _ _ (c .before .before .before .before .checked .ensures) (c .before .before .enum-told .given .1), eq-eqb _ _ (c .before .if1 .taken))
 
-refused-requires-3 : tie.Need-refused-requires-3
-refused-requires-3 c κs = search needs
-
-returns-3 : tie.Need-returns-3
-unfolding acquire
-returns-3 c = rw (c .refused3 .ensures, holds (c .before .before .before .before .before .is-semaphore .ensures) (c .before .before .before .before .if1 .left), holds (c .before .before .before .is-timeout .ensures) (c .before .before .if2 .left), eq-eqb _ _ (c .before .if3 .taken))
-
-refused-requires-4 : tie.Need-refused-requires-4
-refused-requires-4 c κs = search needs
-
-returns-4 : tie.Need-returns-4
-unfolding acquire
-returns-4 c = rw (c .refused4 .ensures, holds (c .before .before .before .before .before .before .is-semaphore .ensures) (c .before .before .before .before .before .if1 .left), holds (c .before .before .before .before .is-timeout .ensures) (c .before .before .before .if2 .left), ne-eqb _ _ (c .before .before .if3 .left), not-true (c .before .before .before .before .before .before .before .args .mine) (c .before .if4 .taken))
-
-refused-requires-5 : tie.Need-refused-requires-5
-refused-requires-5 c κs = search needs
-
-returns-5 : tie.Need-returns-5
-unfolding acquire
-returns-5 c = rw (c .refused5 .ensures, holds (c .before .before .before .before .before .before .before .is-semaphore .ensures) (c .before .before .before .before .before .before .if1 .left), holds (c .before .before .before .before .before .is-timeout .ensures) (c .before .before .before .before .if2 .left), ne-eqb _ _ (c .before .before .before .if3 .left), not-false (c .before .before .before .before .before .before .before .before .args .mine) (c .before .before .if4 .left), eq-eqb _ _ (c .before .if5 .taken))
-
-cast-m : tie.Need-cast-m
-cast-m c = omega (arith, within-top _ _ _ (holds (c .before .before .before .before .before .before .is-semaphore .ensures) (c .before .before .before .before .before .if1 .left)))
+on-semaphore-requires : tie.Need-on-semaphore-requires
+on-semaphore-requires c κs = search needs
 
 waiting-requires : tie.Need-waiting-requires
 waiting-requires c κs = search needs
@@ -58,9 +49,9 @@ waiting-requires c κs = search needs
 pending-requires : tie.Need-pending-requires
 pending-requires c κs = search needs
 
-returns-6 : tie.Need-returns-6
+returns-3 : tie.Need-returns-3
 unfolding acquire
-returns-6 c = rw (c .pending .ensures, c .before .waiting .ensures, holds (c .before .before .before .before .before .before .before .before .before .is-semaphore .ensures) (c .before .before .before .before .before .before .before .before .if1 .left), holds (c .before .before .before .before .before .before .before .is-timeout .ensures) (c .before .before .before .before .before .before .if2 .left), ne-eqb _ _ (c .before .before .before .before .before .if3 .left), not-false (c .before .before .before .before .before .before .before .before .before .before .args .mine) (c .before .before .before .before .if4 .left), ne-eqb _ _ (c .before .before .before .if5 .left), eq-eqb _ _ (c .before .before .if6 .taken))
+returns-3 c = rw (c .pending .ensures, c .before .waiting .ensures, c .before .before .on-semaphore .ensures, ← c .before .before .before .before .before .before .before .before .before .before .is-semaphore .ensures, ← c .before .before .before .before .before .before .before .before .before .is-timeout .ensures, passes _ _ _ (c .before .before .before .before .before .before .before .checked .ensures) (c .before .before .before .before .before .enum-told .given .1), ne-eqb _ _ (c .before .before .before .before .if1 .left), eq-eqb _ _ (c .before .before .before .if2 .taken))
 
 sub-n : tie.Need-sub-n
 sub-n c = search needs
@@ -68,30 +59,28 @@ sub-n c = search needs
 counts-requires : tie.Need-counts-requires
 counts-requires c κs = search needs
 
-returns-7 : tie.Need-returns-7
+returns-4 : tie.Need-returns-4
 unfolding acquire
-returns-7 c = rw (c .counts .ensures, holds (c .before .before .before .before .before .before .before .before .is-semaphore .ensures) (c .before .before .before .before .before .before .before .if1 .left), holds (c .before .before .before .before .before .before .is-timeout .ensures) (c .before .before .before .before .before .if2 .left), ne-eqb _ _ (c .before .before .before .before .if3 .left), not-false (c .before .before .before .before .before .before .before .before .before .args .mine) (c .before .before .before .if4 .left), ne-eqb _ _ (c .before .before .if5 .left), ne-eqb _ _ (c .before .if6 .left))
+returns-4 c = rw (c .counts .ensures, ← c .before .before .before .before .before .before .before .before .is-semaphore .ensures, ← c .before .before .before .before .before .before .before .is-timeout .ensures, passes _ _ _ (c .before .before .before .before .before .checked .ensures) (c .before .before .before .enum-told .given .1), ne-eqb _ _ (c .before .before .if1 .left), ne-eqb _ _ (c .before .if2 .left))
 
 pub acquire-spec : {M : Type 1} → statement M
 acquire-spec =
     tie.close
     (tie.spec
     is-semaphore-requires
+    is-timeout-requires
+    checked-requires
+    enum-known-gate
     refused-requires
     returns
-    is-timeout-requires
+    enum-told
+    cast-m
     refused-requires-2
     returns-2
-    refused-requires-3
-    returns-3
-    refused-requires-4
-    returns-4
-    refused-requires-5
-    returns-5
-    cast-m
+    on-semaphore-requires
     waiting-requires
     pending-requires
-    returns-6
+    returns-3
     sub-n
     counts-requires
-    returns-7)
+    returns-4)

@@ -1,50 +1,31 @@
--- `plans_event::poll::event_poll` meets its contract: test by test.
--- It rests on the contracts of what it calls, and on the laws of tests.
+-- `plans_event::event_poll` meets its contract: what every call has in common, then test by test.
+-- It rests on the contracts of what it calls, on the laws of the checks, and on those of tests.
 use native.Mathlib.Omega.{arith}
 use borrow.Author.Needs.{needs}
-use borrow.Author.Tests.{eq-eqb, ne-eqb, le-leb, lt-leb, not-true, not-false}
+use borrow.Author.Tests.{not-true, not-false}
 use Rattle.model.specs.Service.{eventPoll}
-use Rattle.checks.proofs.Laws.{fails, holds, within-top}
+use Rattle.checks.proofs.Laws.{refuses, passes, is-right, and-left, within-top}
 use Rattle.plans_event.proofs.poll.event_poll.Statement.{statement}
 use Rattle.plans_event.proofs.poll.event_poll.Tie as tie
 
 is-flag-requires : tie.Need-is-flag-requires
 is-flag-requires c κs = search needs
 
+checked-requires : tie.Need-checked-requires
+checked-requires c κs = search needs
+
+enum-known-gate : tie.Need-enum-known-gate
+enum-known-gate c = search needs
+
 refused-requires : tie.Need-refused-requires
 refused-requires c κs = search needs
 
 returns : tie.Need-returns
 unfolding eventPoll
-returns c = rw (c .refused .ensures, fails (c .before .before .is-flag .ensures) (c .before .if1 .taken))
+returns c = rw (c .refused .ensures, ← c .before .before .before .before .before .before .is-flag .ensures, refuses _ _ _ (c .before .before .before .before .checked .ensures) (c .before .before .gate .given .1))
 
-refused-requires-2 : tie.Need-refused-requires-2
-refused-requires-2 c κs = search needs
-
-returns-2 : tie.Need-returns-2
-unfolding eventPoll
-returns-2 c = rw (c .refused2 .ensures, holds (c .before .before .before .is-flag .ensures) (c .before .before .if1 .left), eq-eqb _ _ (c .before .if2 .taken))
-
-refused-requires-3 : tie.Need-refused-requires-3
-refused-requires-3 c κs = search needs
-
-returns-3 : tie.Need-returns-3
-unfolding eventPoll
-returns-3 c = rw (c .refused3 .ensures, holds (c .before .before .before .before .is-flag .ensures) (c .before .before .before .if1 .left), ne-eqb _ _ (c .before .before .if2 .left), lt-leb _ _ (c .before .if3 .taken))
-
-refused-requires-4 : tie.Need-refused-requires-4
-refused-requires-4 c κs = search needs
-
-returns-4 : tie.Need-returns-4
-unfolding eventPoll
-returns-4 c = rw (c .refused4 .ensures, holds (c .before .before .before .before .before .is-flag .ensures) (c .before .before .before .before .if1 .left), ne-eqb _ _ (c .before .before .before .if2 .left), le-leb _ _ (c .before .before .if3 .left), eq-eqb _ _ (c .before .if4 .taken))
-
-refused-requires-5 : tie.Need-refused-requires-5
-refused-requires-5 c κs = search needs
-
-returns-5 : tie.Need-returns-5
-unfolding eventPoll
-returns-5 c = rw (c .refused5 .ensures, holds (c .before .before .before .before .before .before .is-flag .ensures) (c .before .before .before .before .before .if1 .left), ne-eqb _ _ (c .before .before .before .before .if2 .left), le-leb _ _ (c .before .before .before .if3 .left), ne-eqb _ _ (c .before .before .if4 .left), not-true (c .before .before .before .before .before .before .before .args .mine) (c .before .if5 .taken))
+enum-told : tie.Need-enum-told
+enum-told c = search needs
 
 is-occupied-requires : tie.Need-is-occupied-requires
 is-occupied-requires c κs = search needs
@@ -52,51 +33,46 @@ is-occupied-requires c κs = search needs
 is-met-requires : tie.Need-is-met-requires
 is-met-requires c κs = search needs
 
-refused-requires-6 : tie.Need-refused-requires-6
-refused-requires-6 c κs = search needs
+refused-requires-2 : tie.Need-refused-requires-2
+refused-requires-2 c κs = search needs
 
-returns-6 : tie.Need-returns-6
+returns-2 : tie.Need-returns-2
 unfolding eventPoll
-returns-6 c = rw (c .refused6 .ensures, holds (c .before .before .before .before .before .before .before .before .before .is-flag .ensures) (c .before .before .before .before .before .before .before .before .if1 .left), ne-eqb _ _ (c .before .before .before .before .before .before .before .if2 .left), le-leb _ _ (c .before .before .before .before .before .before .if3 .left), ne-eqb _ _ (c .before .before .before .before .before .if4 .left), not-false (c .before .before .before .before .before .before .before .before .before .before .args .mine) (c .before .before .before .before .if5 .left), ← c .before .before .before .is-occupied .ensures, c .before .if6 .taken)
+returns-2 c = rw (c .refused2 .ensures, ← c .before .before .before .before .before .before .before .before .is-flag .ensures, passes _ _ _ (c .before .before .before .before .before .before .checked .ensures) (c .before .before .before .before .enum-told .given .1), ← c .before .before .before .is-occupied .ensures, c .before .if1 .taken)
 
-refused-requires-7 : tie.Need-refused-requires-7
-refused-requires-7 c κs = search needs
+refused-requires-3 : tie.Need-refused-requires-3
+refused-requires-3 c κs = search needs
 
-returns-7 : tie.Need-returns-7
+returns-3 : tie.Need-returns-3
 unfolding eventPoll
-returns-7 c = rw (c .refused7 .ensures, holds (c .before .before .before .before .before .before .before .before .before .before .is-flag .ensures) (c .before .before .before .before .before .before .before .before .before .if1 .left), ne-eqb _ _ (c .before .before .before .before .before .before .before .before .if2 .left), le-leb _ _ (c .before .before .before .before .before .before .before .if3 .left), ne-eqb _ _ (c .before .before .before .before .before .before .if4 .left), not-false (c .before .before .before .before .before .before .before .before .before .before .before .args .mine) (c .before .before .before .before .before .if5 .left), ← c .before .before .before .before .is-occupied .ensures, c .before .before .if6 .left, fails (c .before .before .before .is-met .ensures) (c .before .if7 .taken))
+returns-3 c = rw (c .refused3 .ensures, ← c .before .before .before .before .before .before .before .before .before .is-flag .ensures, passes _ _ _ (c .before .before .before .before .before .before .before .checked .ensures) (c .before .before .before .before .before .enum-told .given .1), ← c .before .before .before .before .is-occupied .ensures, c .before .before .if1 .left, ← c .before .before .before .is-met .ensures, not-true (c .before .before .before .is-met .result) (c .before .if2 .taken))
 
 cast-f : tie.Need-cast-f
-cast-f c = omega (arith, within-top _ _ _ (holds (c .before .before .before .before .before .before .before .before .before .is-flag .ensures) (c .before .before .before .before .before .before .before .before .if1 .left)))
+cast-f c = omega (arith, within-top _ _ _ (c .before .before .before .before .before .before .before .before .is-flag .ensures) (and-left _ _ (is-right _ _ _ (c .before .before .before .before .before .before .checked .ensures) (c .before .before .before .before .enum-told .given .1))))
 
 taken-requires : tie.Need-taken-requires
 taken-requires c κs = search needs
 
-returns-8 : tie.Need-returns-8
+returns-4 : tie.Need-returns-4
 unfolding eventPoll
-returns-8 c = rw (c .taken .ensures, holds (c .before .before .before .before .before .before .before .before .before .before .is-flag .ensures) (c .before .before .before .before .before .before .before .before .before .if1 .left), ne-eqb _ _ (c .before .before .before .before .before .before .before .before .if2 .left), le-leb _ _ (c .before .before .before .before .before .before .before .if3 .left), ne-eqb _ _ (c .before .before .before .before .before .before .if4 .left), not-false (c .before .before .before .before .before .before .before .before .before .before .before .args .mine) (c .before .before .before .before .before .if5 .left), ← c .before .before .before .before .is-occupied .ensures, c .before .before .if6 .left, holds (c .before .before .before .is-met .ensures) (c .before .if7 .left))
+returns-4 c = rw (c .taken .ensures, ← c .before .before .before .before .before .before .before .before .before .is-flag .ensures, passes _ _ _ (c .before .before .before .before .before .before .before .checked .ensures) (c .before .before .before .before .before .enum-told .given .1), ← c .before .before .before .before .is-occupied .ensures, c .before .before .if1 .left, ← c .before .before .before .is-met .ensures, not-false (c .before .before .before .is-met .result) (c .before .if2 .left))
 
 pub event-poll-spec : {M : Type 1} → statement M
 event-poll-spec =
     tie.close
     (tie.spec
     is-flag-requires
+    checked-requires
+    enum-known-gate
     refused-requires
     returns
+    enum-told
+    is-occupied-requires
+    is-met-requires
     refused-requires-2
     returns-2
     refused-requires-3
     returns-3
-    refused-requires-4
-    returns-4
-    refused-requires-5
-    returns-5
-    is-occupied-requires
-    is-met-requires
-    refused-requires-6
-    returns-6
-    refused-requires-7
-    returns-7
     cast-f
     taken-requires
-    returns-8)
+    returns-4)

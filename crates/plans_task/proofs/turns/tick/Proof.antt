@@ -1,24 +1,42 @@
--- `plans_task::tick` meets its contract: by the context.
--- It rests on the contracts of what it calls, and on the laws of tests.
+-- `plans_task::tick` meets its contract: what every call has in common.
+-- It rests on the contracts of what it calls, on the laws of the checks, and on those of tests.
 use borrow.Author.Needs.{needs}
-use borrow.Author.Tests.{not-true, not-false}
 use Rattle.model.specs.Service.{tick}
+use Rattle.checks.proofs.Laws.{refuses, passes}
 use Rattle.plans_task.proofs.turns.tick.Statement.{statement}
 use Rattle.plans_task.proofs.turns.tick.Tie as tie
+
+checked-requires : tie.Need-checked-requires
+checked-requires c κs = search needs
+
+enum-known-gate : tie.Need-enum-known-gate
+enum-known-gate c = search needs
 
 refused-requires : tie.Need-refused-requires
 refused-requires c κs = search needs
 
 returns : tie.Need-returns
 unfolding tick
-returns c = rw (c .refused .ensures, not-true (c .before .before .args .mine) (c .before .if1 .taken))
+returns c = rw (c .refused .ensures, refuses _ _ _ (c .before .before .before .before .checked .ensures) (c .before .before .gate .given .1))
+
+enum-told : tie.Need-enum-told
+enum-told c = search needs
 
 does-requires : tie.Need-does-requires
 does-requires c κs = search needs
 
 returns-2 : tie.Need-returns-2
 unfolding tick
-returns-2 c = rw (c .does .ensures, not-false (c .before .before .args .mine) (c .before .if1 .left))
+returns-2 c = rw (c .does .ensures, passes _ _ _ (c .before .before .before .checked .ensures) (c .before .enum-told .given .1))
 
 pub tick-spec : {M : Type 1} → statement M
-tick-spec = tie.close (tie.spec refused-requires returns does-requires returns-2)
+tick-spec =
+    tie.close
+    (tie.spec
+    checked-requires
+    enum-known-gate
+    refused-requires
+    returns
+    enum-told
+    does-requires
+    returns-2)

@@ -1,5 +1,4 @@
--- `plans_task::wanted` meets its contract: by the number given.
--- It rests on the laws of tests.
+-- `plans_task::wanted` meets its contract: 0 means the priority at creation.
 use borrow.Author.Tests.{eq-eqb, ne-eqb}
 use Rattle.model.specs.Service.{wanted}
 use Rattle.plans_task.proofs.turns.wanted.Statement.{statement}

@@ -1,5 +1,5 @@
 -- What demand 3 asks of a call: whether it is a tick, ends or releases a task, sets a slice, releases a semaphore or deletes it.
--- It reads the calls of model alone; whether a call was accepted is asked in Statements.
+-- It reads the calls of model alone; whether a call was accepted is asked in Statements of turns.
 use mathlib.Core.Bool.{Bool, true, false}
 use Prim.Native.Nat.{ℕ}
 use lib.Dec.{eqb}

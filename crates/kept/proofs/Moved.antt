@@ -1,0 +1,61 @@
+-- What a move leaves as it is: the other records, how many there are, and the numbers; these stay at a stop, news and the fall of timeouts too.
+-- It goes by `moved` of model/specs/State and the effects of model/specs/Effect that are made of it, in any state.
+use mathlib.Core.Path.{_≡_, refl, sym}
+use mathlib.Core.Bool.{Bool, true, false, cond}
+use mathlib.Core.List.{List, [], _∷_}
+use Prim.Native.Nat.{ℕ, zero, suc, _<_}
+use lib.Dec.{eqb}
+use lib.ListN.{length, length-set}
+use lib.Seq.{getD-set-same, getD-set-other}
+use Rattle.model.specs.declared.Task.{Task}
+use Rattle.model.specs.declared.State.{State}
+use Rattle.model.specs.declared.News.{News}
+use Rattle.model.specs.Task.{noTask, dormant, activated, aged, told}
+use Rattle.model.specs.State.{task, moved}
+use Rattle.model.specs.Effect.{stopped, toldAll, lapsed}
+
+-- ---- the records
+pub task-kept : (s : State) (u : ℕ) (x : Task) (t : ℕ) → (u ≡ t → ⊥) → task (moved u x s) t ≡ task s t
+unfolding moved
+task-kept s u x t apart = getD-set-other (s .tasks) u t x noTask (λ e. apart (sym e))
+
+pub task-moved : (s : State) (t : ℕ) (x : Task) → t < length (s .tasks) → task (moved t x s) t ≡ x
+unfolding moved
+task-moved s t x h = getD-set-same (s .tasks) t x noTask h
+
+pub tasks-moved : (s : State) (u : ℕ) (x : Task) → length (moved u x s .tasks) ≡ length (s .tasks)
+unfolding moved
+tasks-moved s u x = length-set (s .tasks) u x
+
+-- ---- the numbers
+pub numbers-moved : (s : State) (u : ℕ) (x : Task) → moved u x s .numbers ≡ s .numbers
+unfolding moved
+numbers-moved s u x = refl
+
+pub numbers-stopped : (s : State) (u : ℕ) → stopped u s .numbers ≡ s .numbers
+unfolding stopped moved
+numbers-stopped s u = go (eqb (task s u .activations) 0)
+  where
+    x : Task
+    x = dormant (task s u .base)
+
+    go : (b : Bool) → cond b (moved u x s) (moved u (activated x) (moved u x s)) .numbers ≡ s .numbers
+    go true = refl
+    go false = refl
+
+pub numbers-told : (w : News) (q : List ℕ) (s : State) → toldAll w q s .numbers ≡ s .numbers
+unfolding toldAll moved
+numbers-told w [] s = refl
+numbers-told w (u ∷ q) s = go (eqb u 0) (numbers-told w q z)
+  where
+    z : State
+    z = moved u (told w (task s u)) s
+
+    go : (b : Bool) → toldAll w q z .numbers ≡ s .numbers → cond b s (toldAll w q z) .numbers ≡ s .numbers
+    go true more = refl
+    go false more = more
+
+pub numbers-lapsed : (n i : ℕ) (s : State) → lapsed n i s .numbers ≡ s .numbers
+unfolding lapsed moved
+numbers-lapsed zero i s = refl
+numbers-lapsed (suc n) i s = numbers-lapsed n (suc i) (moved i (aged (task s i)) s)

@@ -1,0 +1,36 @@
+-- `plans::is_event_inside` meets its contract: the three forms by the table of services, and of the rest none is theirs.
+use borrow.Author.Needs.{needs}
+use Rattle.model.specs.Services as Services
+use Rattle.model.specs.Services.{service, services, tasks, system, semaphores, isMine}
+use Rattle.plans.proofs.Laws.{no-event}
+use Rattle.plans.proofs.is_event_inside.Statement.{statement}
+use Rattle.plans.proofs.is_event_inside.Tie as tie
+
+enum-told : tie.Need-enum-told
+enum-told c = search needs
+
+enum-told-2 : tie.Need-enum-told-2
+enum-told-2 c = search needs
+
+enum-told-3 : tie.Need-enum-told-3
+enum-told-3 c = search needs
+
+returns : tie.Need-returns
+unfolding isMine service services tasks system semaphores Services.events
+returns c = rw (c .enum-told .given .1)
+
+returns-2 : tie.Need-returns-2
+unfolding isMine service services tasks system semaphores Services.events
+returns-2 c = rw (c .enum-told2 .given .1)
+
+returns-3 : tie.Need-returns-3
+unfolding isMine service services tasks system semaphores Services.events
+returns-3 c = rw (c .enum-told3 .given .1)
+
+returns-4 : tie.Need-returns-4
+unfolding isMine service services tasks system semaphores Services.events
+returns-4 c = rw (no-event _ (c .match .keys4))
+
+pub is-event-inside-spec : {M : Type 1} → statement M
+is-event-inside-spec =
+    tie.close (tie.spec enum-told enum-told-2 enum-told-3 returns returns-2 returns-3 returns-4)

@@ -1,0 +1,5 @@
+pub mod Tests
+pub mod Done
+pub mod Tasks
+pub mod Objects
+pub mod Ways

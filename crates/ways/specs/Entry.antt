@@ -1,0 +1,37 @@
+-- What a call is to the tally of a semaphore: a creation, a deletion, a release, an acquisition, a poll or nothing.
+-- It reads the calls of model alone; which entries are made, and what they count, is said in Tally of turns.
+use Prim.Native.Nat.{ℕ}
+use Rattle.model.specs.declared.Call.{Call}
+use Rattle.model.specs.declared.Call.the-variants.{TaskCreate, TaskDelete, TaskActivate, TaskIactivate, TaskExit, TaskTerminate, TaskSuspend, TaskResume, TaskSleep, TaskWakeup, TaskIwakeup, TaskReleaseWait, TaskIreleaseWait, TaskChangePriority}
+use Rattle.model.specs.declared.Call.the-variants.{SysTsliceTicks, TickIntProcessing, SemCreate, SemDelete, SemSignal, SemIsignal, SemAcquire, SemPolling, SemIpolling, Event}
+
+pub data Entry : Type 0 where
+  creation : ℕ → ℕ → Entry  -- of a semaphore, with its start value
+  deletion release acquisition poll : ℕ → Entry  -- of a semaphore
+  none : Entry
+
+abbrev pub entry : Call → Entry
+entry (TaskCreate t p o) = none
+entry (TaskDelete t) = none
+entry (TaskActivate t) = none
+entry (TaskIactivate t) = none
+entry TaskExit = none
+entry (TaskTerminate t) = none
+entry (TaskSuspend t) = none
+entry (TaskResume t) = none
+entry (TaskSleep d) = none
+entry (TaskWakeup t) = none
+entry (TaskIwakeup t) = none
+entry (TaskReleaseWait t) = none
+entry (TaskIreleaseWait t) = none
+entry (TaskChangePriority t p) = none
+entry (SysTsliceTicks l v) = none
+entry TickIntProcessing = none
+entry (SemCreate m n v) = creation m n
+entry (SemDelete m) = deletion m
+entry (SemSignal m) = release m
+entry (SemIsignal m) = release m
+entry (SemAcquire m d) = acquisition m
+entry (SemPolling m) = poll m
+entry (SemIpolling m) = poll m
+entry (Event f e) = none
