@@ -1,14 +1,15 @@
 -- A whole part that goes into the table, and one that comes out: one turn of either loop, and what the part then is.
+-- Rests on Laws, and on the library's laws of stores.
 use mathlib.Core.Path.{_≡_, refl, sym, ap, _∙_}
 use mathlib.Core.Bool.{Bool, true, false, _||_}
 use mathlib.Core.List.{List, [], _∷_, _++_, append-assoc}
-use Prim.Native.Nat.{ℕ, zero, suc, _+_, _-_, _≤_, _<_}
+use Prim.Native.Nat.{ℕ, suc, _+_, _-_, _≤_, _<_}
 use native.Mathlib.Numerals.{add-one}
-use native.Mathlib.Nat.{add-zero, add-suc}
+use native.Mathlib.Nat.{add-suc}
 use native.Mathlib.Omega.{arith}
 use lib.Dec.{leb}
-use lib.ListN.{getD, set, length, take, drop, length-take, length-set, drop-of-length-le}
-use lib.Seq.{take-suc, take-suc-set, take-all, drop-cons, sets, sets-eq, take-at, drop-at, take-length, length-take-le, take-set-le, drop-set-lt, drop-set-add, length-sets, getD-set-same}
+use lib.ListN.{getD, set, length, take, drop, drop-of-length-le}
+use lib.Seq.{take-suc, take-suc-set, take-all, drop-cons, sets, sets-eq, take-at, drop-at, length-take-le, take-set-le, drop-set-lt, drop-set-add, length-sets, getD-set-same}
 use borrow.Author.Tests.{leb-true}
 use Rattle.numbers.specs.Numbers.{part, stored, apart, heldIn}
 use Rattle.model.specs.declared.Numbers.{Numbers}
@@ -21,11 +22,8 @@ put-on ns xs z a i h e = rw (add-one i, add-suc a i) (rw (drop-cons xs i 0 h) at
 pub put-end : (ns xs z : List ℕ) (a i : ℕ) → length xs ≤ i → sets ns (a + i) (drop i xs) ≡ z → ns ≡ z
 put-end ns xs z a i h e = rw (drop-of-length-le xs {i = i} h) at e
 
-pub put-start : (ns xs : List ℕ) (a : ℕ) → sets ns (a + 0) (drop 0 xs) ≡ sets ns a xs
-put-start ns xs a = rw (add-zero a)
-
 -- the part is what was put there; that it has room is computed
-pub part-put : (xs : List ℕ) (n : ℕ) → length xs ≡ n → (ns : List ℕ) (a : ℕ) → leb (a + n) (length ns) ≡ true → part a n (sets ns a xs) ≡ xs
+part-put : (xs : List ℕ) (n : ℕ) → length xs ≡ n → (ns : List ℕ) (a : ℕ) → leb (a + n) (length ns) ≡ true → part a n (sets ns a xs) ≡ xs
 unfolding part
 part-put xs n e ns a h =
     let l : a + length xs ≤ length ns = omega (arith, e, leb-true (a + n) (length ns) h) in
@@ -47,7 +45,7 @@ above [] ns a b k h = refl
 above (x ∷ xs) ns a b k h = above xs (set ns a x) (suc a) b k (omega arith) ∙ rw (drop-set-lt b ns a x (omega arith))
 
 -- every other part stays
-pub part-beside : (xs : List ℕ) (n : ℕ) → length xs ≡ n → (ns : List ℕ) (a b k : ℕ) → apart a n b k ≡ true → part b k (sets ns a xs) ≡ part b k ns
+part-beside : (xs : List ℕ) (n : ℕ) → length xs ≡ n → (ns : List ℕ) (a b k : ℕ) → apart a n b k ≡ true → part b k (sets ns a xs) ≡ part b k ns
 part-beside xs n e ns a b k h = go (leb (a + n) b) refl h
   where
     go : (c : Bool) → leb (a + n) b ≡ c → (c || leb (b + k) a) ≡ true → part b k (sets ns a xs) ≡ part b k ns

@@ -1,5 +1,5 @@
 -- One table of numbers for all that is no record and no queue: its parts lie one behind the other, and a store changes one place of
--- one part.
+-- one part. Where each part lies is said in `heldIn`; no place lies between two parts, so that what is held fixes the table.
 use mathlib.Core.Bool.{Bool, cond, _||_}
 use mathlib.Core.List.{List}
 use Prim.Native.Nat.{ℕ, _+_}

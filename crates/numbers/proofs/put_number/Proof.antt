@@ -1,6 +1,6 @@
 -- `numbers::put_number` meets its contract: within the part, and past it.
 -- Rests on Laws.
-use mathlib.Core.Path.{sym, _∙_}
+use mathlib.Core.Path.{_∙_}
 use Rattle.numbers.proofs.Laws as law
 use borrow.Author.Needs.{needs}
 use Rattle.numbers.proofs.put_number.Statement.{statement}

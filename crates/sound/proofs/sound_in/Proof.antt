@@ -1,6 +1,6 @@
 -- `sound::sound_in` meets its contract: the origin, and then the tables, part by part.
 -- Rests on Whole.
-use mathlib.Core.Path.{sym, _∙_}
+use mathlib.Core.Path.{sym}
 use native.Mathlib.Omega.{arith}
 use Rattle.sound.proofs.Whole.{sound-tested}
 use borrow.Author.Needs.{needs}
