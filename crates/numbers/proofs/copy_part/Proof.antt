@@ -19,24 +19,6 @@ abbrev μ-loop : tie.MeasureT-loop
 loop-holds : tie.Need-loop-holds Inv-loop μ-loop
 loop-holds c = (omega arith, refl, refl)
 
-add-xs : tie.Need-add-xs Inv-loop μ-loop
-add-xs c = search needs
-
-mul-xs : tie.Need-mul-xs Inv-loop μ-loop
-mul-xs c = search needs
-
-shared-slice-read-xs : tie.Need-shared-slice-read-xs Inv-loop μ-loop
-shared-slice-read-xs c = search needs
-
-mul-xs-2 : tie.Need-mul-xs-2 Inv-loop μ-loop
-mul-xs-2 c = search needs
-
-slice-write-xs : tie.Need-slice-write-xs Inv-loop μ-loop
-slice-write-xs c = search needs
-
-add-i : tie.Need-add-i Inv-loop μ-loop
-add-i c = search needs
-
 loop-less : tie.Need-loop-less Inv-loop μ-loop
 loop-less c = simp length-set (omega arith)
 
@@ -56,12 +38,12 @@ copy-part-spec =
     Inv-loop
     μ-loop
     loop-holds
-    add-xs
-    mul-xs
-    shared-slice-read-xs
-    mul-xs-2
-    slice-write-xs
-    add-i
+    (λ c. search needs)
+    (λ c. search needs)
+    (λ c. search needs)
+    (λ c. search needs)
+    (λ c. search needs)
+    (λ c. search needs)
     loop-less
     loop-again
     same-length

@@ -20,27 +20,6 @@ abbrev μ-loop : tie.MeasureT-loop
 loop-holds : tie.Need-loop-holds Inv-loop μ-loop
 loop-holds c = (omega arith, refl, rw add-zero)
 
-mul-ns : tie.Need-mul-ns Inv-loop μ-loop
-mul-ns c = search needs
-
-shared-slice-read-ns : tie.Need-shared-slice-read-ns Inv-loop μ-loop
-shared-slice-read-ns c = search needs
-
-add-ns : tie.Need-add-ns Inv-loop μ-loop
-add-ns c = search needs
-
-mul-ns-2 : tie.Need-mul-ns-2 Inv-loop μ-loop
-mul-ns-2 c = search needs
-
-slice-write-ns : tie.Need-slice-write-ns Inv-loop μ-loop
-slice-write-ns c = search needs
-
-add-i : tie.Need-add-i Inv-loop μ-loop
-add-i c = search needs
-
-loop-less : tie.Need-loop-less Inv-loop μ-loop
-loop-less c = omega arith
-
 loop-again : tie.Need-loop-again Inv-loop μ-loop
 loop-again c = let l = c .before .before .loop in let a = c .before .before .before .args in (omega arith, simp length-set (l .inv .1), law.put-on (l .ns) (a .xs .now) _ (a .a) (l .i) (c .before .loop-test .taken) (l .inv .2))
 
@@ -57,13 +36,13 @@ put-part-spec =
     Inv-loop
     μ-loop
     loop-holds
-    mul-ns
-    shared-slice-read-ns
-    add-ns
-    mul-ns-2
-    slice-write-ns
-    add-i
-    loop-less
+    (λ c. search needs)
+    (λ c. search needs)
+    (λ c. search needs)
+    (λ c. search needs)
+    (λ c. search needs)
+    (λ c. search needs)
+    (λ c. omega arith)
     loop-again
     same-length
     returns)

@@ -28,39 +28,6 @@ abbrev μ-loop : tie.MeasureT-loop
 loop-holds : tie.Need-loop-holds Inv-loop μ-loop
 loop-holds c = (omega arith, refl, refl, below-none _, below-none _, refl, refl)
 
-record-at-requires : tie.Need-record-at-requires Inv-loop μ-loop
-record-at-requires c κs = search needs
-
-cast-bits-at : tie.Need-cast-bits-at Inv-loop μ-loop
-cast-bits-at c = search needs
-
-bits-at-requires : tie.Need-bits-at-requires Inv-loop μ-loop
-bits-at-requires c κs = search needs
-
-task-sound-requires : tie.Need-task-sound-requires Inv-loop μ-loop
-task-sound-requires c κs = search needs
-
-is-unmet-requires : tie.Need-is-unmet-requires Inv-loop μ-loop
-is-unmet-requires c κs = search needs
-
-level-of-requires : tie.Need-level-of-requires Inv-loop μ-loop
-level-of-requires c κs = search needs
-
-row-of-requires : tie.Need-row-of-requires Inv-loop μ-loop
-row-of-requires c κs = search needs
-
-array-write-levels : tie.Need-array-write-levels Inv-loop μ-loop
-array-write-levels c = search needs
-
-array-write-rows : tie.Need-array-write-rows Inv-loop μ-loop
-array-write-rows c = search needs
-
-add-t : tie.Need-add-t Inv-loop μ-loop
-add-t c = search needs
-
-loop-less : tie.Need-loop-less Inv-loop μ-loop
-loop-less c = omega arith
-
 loop-again : tie.Need-loop-again Inv-loop μ-loop
 loop-again c =
     let l = c .before .before .before .before .before .before .before .before .before .loop in
@@ -97,16 +64,16 @@ look-spec =
     Inv-loop
     μ-loop
     loop-holds
-    record-at-requires
-    cast-bits-at
-    bits-at-requires
-    task-sound-requires
-    is-unmet-requires
-    level-of-requires
-    row-of-requires
-    array-write-levels
-    array-write-rows
-    add-t
-    loop-less
+    (λ c κs. search needs)
+    (λ c. search needs)
+    (λ c κs. search needs)
+    (λ c κs. search needs)
+    (λ c κs. search needs)
+    (λ c κs. search needs)
+    (λ c κs. search needs)
+    (λ c. search needs)
+    (λ c. search needs)
+    (λ c. search needs)
+    (λ c. omega arith)
     loop-again
     returns)
