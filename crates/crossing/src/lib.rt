@@ -1,7 +1,7 @@
 // The test of a table of queues by crossing off, which looks at each place once.
 // Each function is a definition of specs/Crossing, for every value; it rests on model alone.
 ghost use mathlib.Core.Path.{_≡_};
-ghost use lib.ListN.{drop};
+ghost use lib.ListN.{length, drop};
 ghost use Rattle.model.specs.Test.{zeros, isListed};
 ghost use Rattle.crossing.specs.Crossing.{crosses, crossed, crossesAll, rowEnd};
 
@@ -14,11 +14,11 @@ fn is_listed(l: u8, want: u8) -> bool
     want == l
 }
 
-// Whether there are only zeros from a place on: no way out of the loop, so that it looks at several places at a time.
-fn zeros_from(q: &[u8], from: usize) -> bool
+// Whether there are only zeros from a place on, in a list of n: no way out of the loop, so that it looks at several places at a time.
+fn zeros_from(q: &[u8], from: usize, n: usize) -> bool
+    requires { ⌜ length (now q) ≡ n ⌝ }
     ensures { λ r. ⌜ r ≡ zeros (drop from (now (q .entry))) ⌝ }
 {
-    let n = q.len();
     let mut clear = true;
     let mut i = from;
     while i < n {
@@ -26,6 +26,18 @@ fn zeros_from(q: &[u8], from: usize) -> bool
         i += 1;
     }
     clear
+}
+
+// The same of a row. Most rows are empty: of a whole one the compiler knows how many places there are.
+fn rest_is_free(q: &[u8], from: usize) -> bool
+    ensures { λ r. ⌜ r ≡ zeros (drop from (now (q .entry))) ⌝ }
+{
+    if from == 0 {
+        if q.len() == 24 {
+            return zeros_from(q, 0, 24);
+        }
+    }
+    zeros_from(q, from, q.len())
 }
 
 // Crosses the tasks of row l off.
@@ -36,7 +48,7 @@ fn cross(q: &[u8], l: u8, wants: &mut [u8]) -> bool
     while i < q.len() {
         let t = q[i] as usize;
         if t == 0 {
-            return zeros_from(q, i);
+            return rest_is_free(q, i);
         }
         if wants.len() <= t {
             return false;
@@ -81,5 +93,5 @@ pub fn cross_all(ls: &[u8], n: u8, wants: [u8; 25]) -> bool
         at = end;
         l += 1;
     }
-    zeros_from(&rest, 0)
+    zeros_from(&rest, 0, 25)
 }

@@ -1,18 +1,19 @@
 -- A whole part that goes into the table, and one that comes out: one turn of either loop, and what the part then is.
+-- Rests on Laws, and on the library's laws of stores.
 use mathlib.Core.Path.{_≡_, refl, sym, ap, _∙_}
 use mathlib.Core.Bool.{Bool, true, false, _||_}
 use mathlib.Core.List.{List, [], _∷_, _++_, append-assoc}
-use Prim.Native.Nat.{ℕ, zero, suc, _+_, _-_, _≤_, _<_}
+use Prim.Native.Nat.{ℕ, suc, _+_, _-_, _≤_, _<_}
 use native.Mathlib.Numerals.{add-one}
-use native.Mathlib.Nat.{add-zero, add-suc}
+use native.Mathlib.Nat.{add-suc}
 use native.Mathlib.Omega.{arith}
 use lib.Dec.{leb}
-use lib.ListN.{getD, set, length, take, drop, length-take, length-set, drop-of-length-le}
-use lib.Seq.{take-suc, take-suc-set, take-all, drop-cons, sets, sets-eq, take-at, drop-at, take-length, length-take-le, take-set-le, drop-set-lt, drop-set-add, length-sets, getD-set-same}
+use lib.ListN.{getD, set, length, take, drop, drop-of-length-le}
+use lib.Seq.{take-suc, take-suc-set, take-all, drop-cons, sets, sets-eq, take-at, drop-at, length-take-le, take-set-le, drop-set-lt, drop-set-add, length-sets, getD-set-same}
 use borrow.Author.Tests.{leb-true}
-use Rattle.numbers.specs.Numbers.{part, stored, apart, places, heldIn}
+use Rattle.numbers.specs.Numbers.{part, stored, apart, heldIn}
 use Rattle.model.specs.declared.Numbers.{Numbers}
-use Rattle.numbers.proofs.Laws.{part-same, part-other, part-long}
+use Rattle.numbers.proofs.Laws.{part-at, part-same, part-other, part-long}
 
 -- ---- into the table
 pub put-on : (ns xs z : List ℕ) (a i : ℕ) → i < length xs → sets ns (a + i) (drop i xs) ≡ z → sets (set ns (a + i) (getD xs i 0)) (a + (i + 1)) (drop (i + 1) xs) ≡ z
@@ -21,14 +22,11 @@ put-on ns xs z a i h e = rw (add-one i, add-suc a i) (rw (drop-cons xs i 0 h) at
 pub put-end : (ns xs z : List ℕ) (a i : ℕ) → length xs ≤ i → sets ns (a + i) (drop i xs) ≡ z → ns ≡ z
 put-end ns xs z a i h e = rw (drop-of-length-le xs {i = i} h) at e
 
-pub put-start : (ns xs : List ℕ) (a : ℕ) → sets ns (a + 0) (drop 0 xs) ≡ sets ns a xs
-put-start ns xs a = rw (add-zero a)
-
--- the part is what was put there
-pub part-put : (ns xs : List ℕ) (a n : ℕ) → length xs ≡ n → a + n ≤ length ns → part a n (sets ns a xs) ≡ xs
+-- the part is what was put there; that it has room is computed
+part-put : (xs : List ℕ) (n : ℕ) → length xs ≡ n → (ns : List ℕ) (a : ℕ) → leb (a + n) (length ns) ≡ true → part a n (sets ns a xs) ≡ xs
 unfolding part
-part-put ns xs a n e h =
-    let l : a + length xs ≤ length ns = omega (arith, e) in
+part-put xs n e ns a h =
+    let l : a + length xs ≤ length ns = omega (arith, e, leb-true (a + n) (length ns) h) in
     let m : a ≤ length ns = omega arith in
     rw (sets-eq xs ns a l, append-assoc (take a ns) xs (drop (a + length xs) ns), drop-at (take a ns) (xs ++ drop (a + length xs) ns) a (length-take-le a ns m), take-at xs (drop (a + length xs) ns) n e)
 
@@ -47,7 +45,7 @@ above [] ns a b k h = refl
 above (x ∷ xs) ns a b k h = above xs (set ns a x) (suc a) b k (omega arith) ∙ rw (drop-set-lt b ns a x (omega arith))
 
 -- every other part stays
-pub part-beside : (xs : List ℕ) (n : ℕ) → length xs ≡ n → (ns : List ℕ) (a b k : ℕ) → apart a n b k ≡ true → part b k (sets ns a xs) ≡ part b k ns
+part-beside : (xs : List ℕ) (n : ℕ) → length xs ≡ n → (ns : List ℕ) (a b k : ℕ) → apart a n b k ≡ true → part b k (sets ns a xs) ≡ part b k ns
 part-beside xs n e ns a b k h = go (leb (a + n) b) refl h
   where
     go : (c : Bool) → leb (a + n) b ≡ c → (c || leb (b + k) a) ≡ true → part b k (sets ns a xs) ≡ part b k ns
@@ -55,89 +53,37 @@ part-beside xs n e ns a b k h = go (leb (a + n) b) refl h
     go false f g = below xs ns a b k (leb-true (b + k) a g)
 
 -- ---- out of it
-pub length-places : (n a : ℕ) (ls : List ℕ) → length (places n a ls) ≡ n
-unfolding places
-length-places zero a ls = refl
-length-places (suc n) a ls = ap suc (length-places n (suc a) ls)
-
-pub places-at : (n a i : ℕ) (ls : List ℕ) → i < n → getD (places n a ls) i 0 ≡ getD ls (a + i) 0
-unfolding places
-places-at zero a i ls h = absurd (omega arith)
-places-at (suc n) a zero ls h = rw (add-zero a)
-places-at (suc n) a (suc i) ls h = places-at n (suc a) i ls (omega arith) ∙ ap (λ (k : ℕ). getD ls k 0) (omega arith)
-
 -- one place more is copied
-pub copy-on : (r ls : List ℕ) (n a i v : ℕ) → length r ≡ n → i < length r → v ≡ getD ls (a + i) 0 → take i r ≡ take i (places n a ls) → take (i + 1) (set r i v) ≡ take (i + 1) (places n a ls)
-copy-on r ls n a i v e h f g =
-    rw (add-one i, take-suc-set r i v h, take-suc (places n a ls) i 0 (omega (arith, length-places n a ls)), places-at n a i ls (omega arith), f, g)
+pub copy-on : (r ns : List ℕ) (n a i : ℕ) → length r ≡ n → a + n ≤ length ns → i < n → take i r ≡ take i (part a n ns)
+    → take (i + 1) (set r i (getD ns (a + i) 0)) ≡ take (i + 1) (part a n ns)
+copy-on r ns n a i e m h g =
+    rw (add-one i, take-suc-set r i (getD ns (a + i) 0) (omega arith), take-suc (part a n ns) i 0 (omega (arith, part-long a n ns m)), part-at a n i ns h, g)
 
-pub copy-end : (r ls : List ℕ) (n a i : ℕ) → length r ≡ n → length r ≤ i → take i r ≡ take i (places n a ls) → r ≡ places n a ls
-copy-end r ls n a i e h g = sym (take-all i r h) ∙ g ∙ take-all i (places n a ls) (omega (arith, length-places n a ls))
-
--- within the table it is the part
-pub places-part : (n a : ℕ) (ls : List ℕ) → a + n ≤ length ls → places n a ls ≡ part a n ls
-unfolding places part
-places-part zero a ls h = refl
-places-part (suc n) a ls h = ap (λ (r : List ℕ). getD ls a 0 ∷ r) (places-part n (suc a) ls (omega arith)) ∙ rw (drop-cons ls a 0 (omega arith))
+pub copy-end : (r ns : List ℕ) (n a i : ℕ) → length r ≡ n → a + n ≤ length ns → n ≤ i → take i r ≡ take i (part a n ns) → r ≡ part a n ns
+copy-end r ns n a i e m h g = sym (take-all i r (omega arith)) ∙ g ∙ take-all i (part a n ns) (omega (arith, part-long a n ns m))
 
 -- ---- all of them
 pub spreads : (x : Numbers) (n₀ n₁ n₂ n₃ n₄ n₅ n₆ n₇ : List ℕ)
     → length n₀ ≡ 107 → (n₁ ≡ sets n₀ 0 (x .slices)) × (length (x .slices) ≡ 31) → (n₂ ≡ sets n₁ 31 (x .charges)) × (length (x .charges) ≡ 31) → (n₃ ≡ sets n₂ 62 (x .counts)) × (length (x .counts) ≡ 13) → (n₄ ≡ sets n₃ 75 (x .maxima)) × (length (x .maxima) ≡ 13) → (n₅ ≡ sets n₄ 88 (x .attributes)) × (length (x .attributes) ≡ 9) → (n₆ ≡ sets n₅ 97 (x .bits)) × (length (x .bits) ≡ 9)
     → n₇ ≡ stored 106 1 0 (x .time) n₆ → heldIn n₇ ≡ x
 spreads x n₀ n₁ n₂ n₃ n₄ n₅ n₆ n₇ h m₁ m₂ m₃ m₄ m₅ m₆ d₇ =
-    let d₁ = m₁ .0 in let a = m₁ .1 in let d₂ = m₂ .0 in let b = m₂ .1 in let d₃ = m₃ .0 in let c = m₃ .1 in
-    let d₄ = m₄ .0 in let d = m₄ .1 in let d₅ = m₅ .0 in let e = m₅ .1 in let d₆ = m₆ .0 in let f = m₆ .1 in
-    let h₁ : length n₁ ≡ 107 = ap length d₁ ∙ length-sets n₀ 0 (x .slices) ∙ h in
-    let h₂ : length n₂ ≡ 107 = ap length d₂ ∙ length-sets n₁ 31 (x .charges) ∙ h₁ in
-    let h₃ : length n₃ ≡ 107 = ap length d₃ ∙ length-sets n₂ 62 (x .counts) ∙ h₂ in
-    let h₄ : length n₄ ≡ 107 = ap length d₄ ∙ length-sets n₃ 75 (x .maxima) ∙ h₃ in
-    let h₅ : length n₅ ≡ 107 = ap length d₅ ∙ length-sets n₄ 88 (x .attributes) ∙ h₄ in
-    let h₆ : length n₆ ≡ 107 = ap length d₆ ∙ length-sets n₅ 97 (x .bits) ∙ h₅ in
-    let p₁ : part 0 31 n₁ ≡ x .slices = rw d₁ (part-put n₀ (x .slices) 0 31 a (omega (arith, h))) in
-    let p₂ : part 31 31 n₂ ≡ x .charges = rw d₂ (part-put n₁ (x .charges) 31 31 b (omega (arith, h₁))) in
-    let p₃ : part 62 13 n₃ ≡ x .counts = rw d₃ (part-put n₂ (x .counts) 62 13 c (omega (arith, h₂))) in
-    let p₄ : part 75 13 n₄ ≡ x .maxima = rw d₄ (part-put n₃ (x .maxima) 75 13 d (omega (arith, h₃))) in
-    let p₅ : part 88 9 n₅ ≡ x .attributes = rw d₅ (part-put n₄ (x .attributes) 88 9 e (omega (arith, h₄))) in
-    let p₆ : part 97 9 n₆ ≡ x .bits = rw d₆ (part-put n₅ (x .bits) 97 9 f (omega (arith, h₅))) in
-    let q₂ : (u k : ℕ) → apart 31 31 u k ≡ true → part u k n₂ ≡ part u k n₁ = λ u k g. rw d₂ (part-beside (x .charges) 31 b n₁ 31 u k g) in
-    let q₃ : (u k : ℕ) → apart 62 13 u k ≡ true → part u k n₃ ≡ part u k n₂ = λ u k g. rw d₃ (part-beside (x .counts) 13 c n₂ 62 u k g) in
-    let q₄ : (u k : ℕ) → apart 75 13 u k ≡ true → part u k n₄ ≡ part u k n₃ = λ u k g. rw d₄ (part-beside (x .maxima) 13 d n₃ 75 u k g) in
-    let q₅ : (u k : ℕ) → apart 88 9 u k ≡ true → part u k n₅ ≡ part u k n₄ = λ u k g. rw d₅ (part-beside (x .attributes) 9 e n₄ 88 u k g) in
-    let q₆ : (u k : ℕ) → apart 97 9 u k ≡ true → part u k n₆ ≡ part u k n₅ = λ u k g. rw d₆ (part-beside (x .bits) 9 f n₅ 97 u k g) in
-    let q₇ : (u k : ℕ) → apart 106 1 u k ≡ true → part u k n₇ ≡ part u k n₆ = λ u k g. rw d₇ (part-other 106 1 u k 0 (x .time) n₆ g) in
-    let t : getD (part 106 1 n₇) 0 0 ≡ x .time = rw (d₇, part-same 106 1 0 (x .time) n₆) (getD-set-same (part 106 1 n₆) 0 (x .time) 0 (omega (arith, part-long 106 1 n₆ (omega (arith, h₆))))) in
-    rw (
-      q₇ 0 31 refl,
-      q₆ 0 31 refl,
-      q₅ 0 31 refl,
-      q₄ 0 31 refl,
-      q₃ 0 31 refl,
-      q₂ 0 31 refl,
-      p₁,
-      q₇ 31 31 refl,
-      q₆ 31 31 refl,
-      q₅ 31 31 refl,
-      q₄ 31 31 refl,
-      q₃ 31 31 refl,
-      p₂,
-      q₇ 62 13 refl,
-      q₆ 62 13 refl,
-      q₅ 62 13 refl,
-      q₄ 62 13 refl,
-      p₃,
-      q₇ 75 13 refl,
-      q₆ 75 13 refl,
-      q₅ 75 13 refl,
-      p₄,
-      q₇ 88 9 refl,
-      q₆ 88 9 refl,
-      p₅,
-      q₇ 97 9 refl,
-      p₆,
-      t,
-    )
-
-pub gathers : (n : List ℕ) (a b c d e f : List ℕ) (g : ℕ) → length n ≡ 107 → a ≡ places 31 0 n → b ≡ places 31 31 n → c ≡ places 13 62 n → d ≡ places 13 75 n → e ≡ places 9 88 n → f ≡ places 9 97 n → g ≡ getD (part 106 1 n) 0 0
-    → record { slices = a; charges = b; counts = c; maxima = d; attributes = e; bits = f; time = g } ≡ heldIn n
-gathers n a b c d e f g h p q r s t u v =
-    rw (p, q, r, s, t, u, v, places-part 31 0 n (omega arith), places-part 31 31 n (omega arith), places-part 13 62 n (omega arith), places-part 13 75 n (omega arith), places-part 9 88 n (omega arith), places-part 9 97 n (omega arith))
+    let room : 0 < length (part 106 1 n₀) = omega (arith, part-long 106 1 n₀ (omega arith)) in
+    rw (d₇, m₆ .0, m₅ .0, m₄ .0, m₃ .0, m₂ .0, m₁ .0) (simp (
+      part-same,
+      part-other,
+      part-beside (x .slices) 31 (m₁ .1),
+      part-beside (x .charges) 31 (m₂ .1),
+      part-beside (x .counts) 13 (m₃ .1),
+      part-beside (x .maxima) 13 (m₄ .1),
+      part-beside (x .attributes) 9 (m₅ .1),
+      part-beside (x .bits) 9 (m₆ .1),
+      part-put (x .slices) 31 (m₁ .1),
+      part-put (x .charges) 31 (m₂ .1),
+      part-put (x .counts) 13 (m₃ .1),
+      part-put (x .maxima) 13 (m₄ .1),
+      part-put (x .attributes) 9 (m₅ .1),
+      part-put (x .bits) 9 (m₆ .1),
+      length-sets,
+      h,
+      getD-set-same,
+    ))

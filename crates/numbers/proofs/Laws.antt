@@ -1,14 +1,14 @@
 -- A part of the table of numbers after a store: another part is as it was, and the part itself changes in one place.
 -- Both hold for a table of any length. Rests on the definitions alone.
-use mathlib.Core.Path.{_≡_, refl, sym, ap, _∙_}
+use mathlib.Core.Path.{_≡_, refl, sym}
 use mathlib.Core.Bool.{Bool, true, false, cond, _||_}
-use mathlib.Core.List.{List, [], _∷_}
-use Prim.Native.Nat.{ℕ, zero, suc, _+_, _-_, _≤_, _<_}
+use mathlib.Core.List.{List}
+use Prim.Native.Nat.{ℕ, _+_, _-_, _≤_, _<_}
 use native.Mathlib.Omega.{arith}
 use lib.Dec.{ltb, leb}
 use lib.ListN.{getD, set, take, drop, length, length-take, length-drop, List·getD-eq-default}
 use lib.Seq.{take-set-le, take-set-lt, drop-set-lt, drop-set-add, set-out, getD-take, getD-drop}
-use borrow.Author.Tests.{ltb-true, ltb-false, leb-true, leb-false, lt-ltb, le-ltb}
+use borrow.Author.Tests.{ltb-true, ltb-false, leb-true, lt-ltb, le-ltb}
 use Rattle.numbers.specs.Numbers.{part, stored, apart}
 
 short : (a n : ℕ) (ns : List ℕ) → length (part a n ns) ≤ n

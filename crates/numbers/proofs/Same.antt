@@ -1,7 +1,8 @@
 -- The parts cover the table: two tables that hold the same numbers by name are one. So a promise about the state fixes what is lent.
-use mathlib.Core.Path.{_≡_, refl, sym, ap, _∙_}
+-- Rests on Laws.
+use mathlib.Core.Path.{_≡_, sym, ap, _∙_}
 use mathlib.Core.List.{List, [], _∷_, _++_}
-use Prim.Native.Nat.{ℕ, zero, suc, _+_, _≤_, _<_}
+use Prim.Native.Nat.{ℕ, _+_}
 use native.Mathlib.Omega.{arith}
 use lib.ListN.{getD, length, take, drop, take-append-drop, drop-of-length-le}
 use lib.Seq.{drop-drop, drop-cons}
@@ -22,7 +23,7 @@ last n h =
 abbrev tableOf : Numbers → List ℕ
 tableOf x = x .slices ++ (x .charges ++ (x .counts ++ (x .maxima ++ (x .attributes ++ (x .bits ++ (x .time ∷ []))))))
 
-pub table-of : (n : List ℕ) → length n ≡ 107 → n ≡ tableOf (heldIn n)
+table-of : (n : List ℕ) → length n ≡ 107 → n ≡ tableOf (heldIn n)
 table-of n h =
     split 0 31 n ∙ ap (λ (r : List ℕ). part 0 31 n ++ r)
     (split 31 31 n ∙ ap (λ (r : List ℕ). part 31 31 n ++ r)

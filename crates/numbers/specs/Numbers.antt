@@ -1,9 +1,8 @@
 -- One table of numbers for all that is no record and no queue: its parts lie one behind the other, and a store changes one place of
--- one part.
-use mathlib.Core.Path.{_≡_}
-use mathlib.Core.Bool.{Bool, true, false, cond, _||_}
-use mathlib.Core.List.{List, [], _∷_}
-use Prim.Native.Nat.{ℕ, zero, suc, _+_}
+-- one part. Where each part lies is said in `heldIn`; no place lies between two parts, so that what is held fixes the table.
+use mathlib.Core.Bool.{Bool, cond, _||_}
+use mathlib.Core.List.{List}
+use Prim.Native.Nat.{ℕ, _+_}
 use lib.Dec.{ltb, leb}
 use lib.ListN.{getD, set, take, drop}
 use Rattle.model.specs.declared.Numbers.{Numbers}
@@ -19,11 +18,6 @@ stored a n i v ns = cond (ltb i n) (set ns (a + i) v) ns
 -- two parts that share no place
 abbrev pub apart : ℕ → ℕ → ℕ → ℕ → Bool
 apart a n b k = leb (a + n) b || leb (b + k) a
-
--- n places of a table, from place a on, with zeros for those past its end
-unfoldable pub places : ℕ → ℕ → List ℕ → List ℕ
-places zero a ls = []
-places (suc n) a ls = getD ls a 0 ∷ places n (suc a) ls
 
 -- where each part lies: the numbers by name that a table holds
 abbrev pub heldIn : List ℕ → Numbers

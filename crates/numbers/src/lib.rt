@@ -1,9 +1,10 @@
 // One table of numbers, read and changed where it lies: each part has a function that reads it and one that changes it.
 // A place past the part's end reads as 0, and a store there changes nothing. Rests on specs/Numbers, which says where each part lies.
 ghost use mathlib.Core.Path.{_≡_};
+ghost use Prim.Native.Nat.{_+_, _≤_};
 ghost use lib.ListN.{getD, set, length};
 ghost use lib.Seq.{sets};
-ghost use Rattle.numbers.specs.Numbers.{part, stored, places, heldIn};
+ghost use Rattle.numbers.specs.Numbers.{part, stored, heldIn};
 ghost use Rattle.model.specs.State.{noted, ofSlices, ofCharges, ofCounts, ofMaxima, ofAttributes, ofBits, ofTime};
 use model::Numbers;
 
@@ -157,40 +158,45 @@ pub fn put_time(ns: &mut [u32; 107], v: u32)
 
 // ---- a whole part goes into the table,
 fn put_part(ns: &mut [u32], a: u16, xs: &[u32])
+    requires { ⌜ a + length (now xs) ≤ length (now ns) ⌝ }
     ensures { λ r. ⌜ now (ns .exit) ≡ sets (now (ns .entry)) a (now (xs .entry)) ⌝ }
 {
     let mut i: usize = 0;
     while i < xs.len() {
-        put_word(ns, (a as usize) + i, xs[i]);
+        ns[(a as usize) + i] = xs[i];
         i = i + 1;
     }
 }
 
 // and comes out of it.
 fn copy_part(xs: &mut [u32], ns: &[u32], a: u16)
-    ensures { λ r. ⌜ now (xs .exit) ≡ places (length (now (xs .entry))) a (now (ns .entry)) ⌝ }
+    requires { ⌜ a + length (now xs) ≤ length (now ns) ⌝ }
+    ensures { λ r. ⌜ now (xs .exit) ≡ part a (length (now (xs .entry))) (now (ns .entry)) ⌝ }
 {
     let mut i: usize = 0;
     while i < xs.len() {
-        xs[i] = word_at(ns, (a as usize) + i);
+        xs[i] = ns[(a as usize) + i];
         i = i + 1;
     }
 }
 
 // ---- all of them, as a caller holds them
 fn put31(ns: &mut [u32], a: u16, xs: [u32; 31])
+    requires { ⌜ a + 31 ≤ length (now ns) ⌝ }
     ensures { λ r. ⌜ (now (ns .exit) ≡ sets (now (ns .entry)) a xs) × (length xs ≡ 31) ⌝ }
 {
     put_part(ns, a, &xs);
 }
 
 fn put13(ns: &mut [u32], a: u16, xs: [u32; 13])
+    requires { ⌜ a + 13 ≤ length (now ns) ⌝ }
     ensures { λ r. ⌜ (now (ns .exit) ≡ sets (now (ns .entry)) a xs) × (length xs ≡ 13) ⌝ }
 {
     put_part(ns, a, &xs);
 }
 
 fn put9(ns: &mut [u32], a: u16, xs: [u32; 9])
+    requires { ⌜ a + 9 ≤ length (now ns) ⌝ }
     ensures { λ r. ⌜ (now (ns .exit) ≡ sets (now (ns .entry)) a xs) × (length xs ≡ 9) ⌝ }
 {
     put_part(ns, a, &xs);
@@ -216,7 +222,8 @@ pub fn spread(ns: &mut [u32; 107], x: Numbers)
 }
 
 fn part31(ns: &[u32], a: u16) -> [u32; 31]
-    ensures { λ r. ⌜ r ≡ places 31 a (now (ns .entry)) ⌝ }
+    requires { ⌜ a + 31 ≤ length (now ns) ⌝ }
+    ensures { λ r. ⌜ r ≡ part a 31 (now (ns .entry)) ⌝ }
 {
     let mut r = [0u32; 31];
     copy_part(&mut r, ns, a);
@@ -224,7 +231,8 @@ fn part31(ns: &[u32], a: u16) -> [u32; 31]
 }
 
 fn part13(ns: &[u32], a: u16) -> [u32; 13]
-    ensures { λ r. ⌜ r ≡ places 13 a (now (ns .entry)) ⌝ }
+    requires { ⌜ a + 13 ≤ length (now ns) ⌝ }
+    ensures { λ r. ⌜ r ≡ part a 13 (now (ns .entry)) ⌝ }
 {
     let mut r = [0u32; 13];
     copy_part(&mut r, ns, a);
@@ -232,7 +240,8 @@ fn part13(ns: &[u32], a: u16) -> [u32; 13]
 }
 
 fn part9(ns: &[u32], a: u16) -> [u32; 9]
-    ensures { λ r. ⌜ r ≡ places 9 a (now (ns .entry)) ⌝ }
+    requires { ⌜ a + 9 ≤ length (now ns) ⌝ }
+    ensures { λ r. ⌜ r ≡ part a 9 (now (ns .entry)) ⌝ }
 {
     let mut r = [0u32; 9];
     copy_part(&mut r, ns, a);

@@ -1,12 +1,11 @@
 -- Laws by which the loops over the tables go on, and what crossing off says of the tasks' own records.
 -- Rests on crossing/proofs/Exactly.
 use mathlib.Core.Path.{_≡_, refl, sym, ap, _∙_}
-use mathlib.Core.Bool.{Bool, true, false, cond, _&&_}
+use mathlib.Core.Bool.{Bool, true, _&&_}
 use mathlib.Core.List.{List, map}
-use Prim.Native.Nat.{ℕ, _+_, _*_, _≤_, _<_}
+use Prim.Native.Nat.{ℕ, _+_, _≤_, _<_}
 use native.Mathlib.Numerals.{add-one}
 use native.Mathlib.Omega.{arith}
-use lib.Dec.{leb}
 use lib.ListN.{length, take, getD, set, length-map, List·getD-map}
 use lib.Seq.{take-suc, take-suc-set, take-all}
 use Rattle.model.specs.declared.Task.{Task}

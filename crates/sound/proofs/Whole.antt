@@ -1,6 +1,6 @@
 -- The test of a whole state, from its parts: tables that are lent have their places, and where the origin is unused crossing off
 -- is the test of the queues. Rests on Tables and on the laws of the lent tables.
-use mathlib.Core.Path.{_≡_, refl, _∙_}
+use mathlib.Core.Path.{_≡_, refl}
 use mathlib.Core.Bool.{Bool, true, false, _&&_, and-false, false≢true}
 use mathlib.Core.List.{List, map}
 use Prim.Native.Nat.{ℕ, zero, suc, _*_}

@@ -38,7 +38,7 @@ pub read-past : (b w : List ℕ) (t : ℕ) → 25 ≤ t → getD (tasksOf b w) t
 read-past b w t h = List·getD-eq-default (tasksOf b w) noTask (omega (arith, length-tasks b w))
 
 -- a table of records is the tables' if each of its records is
-pub all-read : (b w : List ℕ) (l : List Task) → length l ≡ 25 → ((i : ℕ) → i < 25 → recordAt b w i ≡ getD l i noTask) → tasksOf b w ≡ l
+all-read : (b w : List ℕ) (l : List Task) → length l ≡ 25 → ((i : ℕ) → i < 25 → recordAt b w i ≡ getD l i noTask) → tasksOf b w ≡ l
 all-read b w l e h =
     ext-getD noTask (tasksOf b w) l (length-tasks b w ∙ sym e) (λ i g. let k : i < 25 = omega (arith, length-tasks b w) in read b w i k ∙ h i k)
 

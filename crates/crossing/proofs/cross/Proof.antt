@@ -20,27 +20,15 @@ abbrev μ-loop : tie.MeasureT-loop
 loop-holds : tie.Need-loop-holds Inv-loop μ-loop
 loop-holds c = (refl, refl, refl)
 
-shared-slice-read-t : tie.Need-shared-slice-read-t Inv-loop μ-loop
-shared-slice-read-t c = search needs
-
 cast-t : tie.Need-cast-t Inv-loop μ-loop
 cast-t c = omega (arith, c .shared-slice-known2 .given (c .before .before .loop .i))
-
-zeros-from-requires : tie.Need-zeros-from-requires Inv-loop μ-loop
-zeros-from-requires c κs = search needs
-
-same-length : tie.Need-same-length Inv-loop μ-loop
-same-length c = search needs
 
 returns : tie.Need-returns Inv-loop μ-loop
 returns c =
     let l = c .before .before .before .before .loop in
     let a = c .before .before .before .before .before .before .before .args in
     let s = crosses-ends (a .l) (l .wants) (a .q .now) (l .i) (c .before .before .before .loop-test .taken) (c .before .if1 .taken) in
-    (c .zeros-from .ensures ∙ sym (l .inv .1 ∙ s .0), sym (l .inv .2 ∙ s .1))
-
-same-length-2 : tie.Need-same-length-2 Inv-loop μ-loop
-same-length-2 c = search needs
+    (c .rest-is-free .ensures ∙ sym (l .inv .1 ∙ s .0), sym (l .inv .2 ∙ s .1))
 
 returns-2 : tie.Need-returns-2 Inv-loop μ-loop
 returns-2 c =
@@ -49,15 +37,6 @@ returns-2 c =
     let s = crosses-fails (a .l) (l .wants) (a .q .now) (l .i) (c .before .before .before .loop-test .taken) (c .before .if1 .left) (far-listed (a .l) (l .wants) (getD (a .q .now) (l .i) 0) (c .if2 .taken)) in
     (sym (l .inv .1 ∙ s .0), sym (l .inv .2 ∙ s .1))
 
-slice-read-want : tie.Need-slice-read-want Inv-loop μ-loop
-slice-read-want c = search needs
-
-is-listed-requires : tie.Need-is-listed-requires Inv-loop μ-loop
-is-listed-requires c κs = search needs
-
-same-length-3 : tie.Need-same-length-3 Inv-loop μ-loop
-same-length-3 c = search needs
-
 returns-3 : tie.Need-returns-3 Inv-loop μ-loop
 returns-3 c =
     let l = c .before .before .before .before .before .before .before .loop in
@@ -65,24 +44,12 @@ returns-3 c =
     let s = crosses-fails (a .l) (l .wants) (a .q .now) (l .i) (c .before .before .before .before .before .before .loop-test .taken) (c .before .before .before .before .if1 .left) (sym (c .before .is-listed .ensures) ∙ not-true (c .before .is-listed .result) (c .if3 .taken)) in
     (sym (l .inv .1 ∙ s .0), sym (l .inv .2 ∙ s .1))
 
-slice-write-wants : tie.Need-slice-write-wants Inv-loop μ-loop
-slice-write-wants c = search needs
-
-add-i : tie.Need-add-i Inv-loop μ-loop
-add-i c = omega arith
-
-loop-less : tie.Need-loop-less Inv-loop μ-loop
-loop-less c = omega arith
-
 loop-again : tie.Need-loop-again Inv-loop μ-loop
 loop-again c =
     let l = c .before .before .before .before .before .before .before .loop in
     let a = c .before .before .before .before .before .before .before .before .before .before .args in
     let s = crosses-on (a .l) (l .wants) (a .q .now) (l .i) (c .before .before .before .before .before .before .loop-test .taken) (c .before .before .before .before .if1 .left) (sym (c .before .is-listed .ensures) ∙ not-false (c .before .is-listed .result) (c .if3 .left)) in
     (simp length-set (l .inv .0), l .inv .1 ∙ s .0, l .inv .2 ∙ s .1)
-
-same-length-4 : tie.Need-same-length-4 Inv-loop μ-loop
-same-length-4 c = search needs
 
 returns-4 : tie.Need-returns-4 Inv-loop μ-loop
 returns-4 c =
@@ -98,20 +65,20 @@ cross-spec =
     Inv-loop
     μ-loop
     loop-holds
-    shared-slice-read-t
+    (λ c. search needs)
     cast-t
-    zeros-from-requires
-    same-length
+    (λ c κs. search needs)
+    (λ c. search needs)
     returns
-    same-length-2
+    (λ c. search needs)
     returns-2
-    slice-read-want
-    is-listed-requires
-    same-length-3
+    (λ c. search needs)
+    (λ c κs. search needs)
+    (λ c. search needs)
     returns-3
-    slice-write-wants
-    add-i
-    loop-less
+    (λ c. search needs)
+    (λ c. omega arith)
+    (λ c. omega arith)
     loop-again
-    same-length-4
+    (λ c. search needs)
     returns-4)

@@ -21,9 +21,6 @@ abbrev μ-loop : tie.MeasureT-loop
 loop-holds : tie.Need-loop-holds Inv-loop μ-loop
 loop-holds c = (search needs, omega arith, omega arith, rw sub-zero)
 
-row-end-requires : tie.Need-row-end-requires Inv-loop μ-loop
-row-end-requires c κs = search needs
-
 sub-cross : tie.Need-sub-cross Inv-loop μ-loop
 sub-cross c = let l = c .before .before .loop in rw (c .row-end .ensures) (end-high (c .before .before .before .before .args .ls .now) (l .at) (l .inv .1))
 
@@ -33,24 +30,12 @@ part-cross-start c = sub-cross c
 part-cross-end : tie.Need-part-cross-end Inv-loop μ-loop
 part-cross-end c = rw (c .row-end .ensures) (end-low (c .before .before .before .before .args .ls .now) (c .before .before .loop .at))
 
-slice-aggregate-cross : tie.Need-slice-aggregate-cross Inv-loop μ-loop
-slice-aggregate-cross c = search needs
-
-cross-requires : tie.Need-cross-requires Inv-loop μ-loop
-cross-requires c κs = search needs
-
 returns : tie.Need-returns Inv-loop μ-loop
 returns c =
     let l = c .before .before .before .before .before .before .before .loop in
     let a = c .before .before .before .before .before .before .before .before .before .args in
     let k = c .before .before .cross in
     sym (l .inv .3 ∙ row-fails (a .ls .now) (l .at) (a .n) (l .l) (l .rest) _ (c .before .before .before .before .before .row-end .ensures) (c .before .before .before .before .before .before .loop-test .taken) (l .inv .1) (sym (k .ensures .0) ∙ not-true (k .result) (c .if1 .taken)))
-
-add-l : tie.Need-add-l Inv-loop μ-loop
-add-l c = omega arith
-
-loop-less : tie.Need-loop-less Inv-loop μ-loop
-loop-less c = omega arith
 
 loop-again : tie.Need-loop-again Inv-loop μ-loop
 loop-again c =
@@ -62,12 +47,6 @@ loop-again c =
       omega arith,
       rw (k .ensures .1) (l .inv .3 ∙ row-crossed (a .ls .now) (l .at) (a .n) (l .l) (l .rest) _ (c .before .before .before .before .before .row-end .ensures) (c .before .before .before .before .before .before .loop-test .taken) (l .inv .1) (sym (k .ensures .0) ∙ not-false (k .result) (c .if1 .left))),
     )
-
-slice-aggregate-zeros-from : tie.Need-slice-aggregate-zeros-from Inv-loop μ-loop
-slice-aggregate-zeros-from c = search needs
-
-zeros-from-requires : tie.Need-zeros-from-requires Inv-loop μ-loop
-zeros-from-requires c κs = search needs
 
 returns-2 : tie.Need-returns-2 Inv-loop μ-loop
 returns-2 c =
@@ -82,16 +61,16 @@ cross-all-spec =
     Inv-loop
     μ-loop
     loop-holds
-    row-end-requires
+    (λ c κs. search needs)
     sub-cross
     part-cross-start
     part-cross-end
-    slice-aggregate-cross
-    cross-requires
+    (λ c. search needs)
+    (λ c κs. search needs)
     returns
-    add-l
-    loop-less
+    (λ c. omega arith)
+    (λ c. omega arith)
     loop-again
-    slice-aggregate-zeros-from
-    zeros-from-requires
+    (λ c. search needs)
+    (λ c κs. search needs)
     returns-2)

@@ -12,19 +12,13 @@ returns : tie.Need-returns
 unfolding rowEnd
 returns c = let a = c .before .args in rw (lt-ltb (a .places - a .at) 24 (omega arith))
 
-sub-if2 : tie.Need-sub-if2
-sub-if2 c = search needs
-
 returns-2 : tie.Need-returns-2
 unfolding rowEnd
 returns-2 c = rw (lt-ltb _ _ (c .if2 .taken))
-
-add-result : tie.Need-add-result
-add-result c = search needs
 
 returns-3 : tie.Need-returns-3
 unfolding rowEnd
 returns-3 c = rw (le-ltb _ _ (c .if2 .left))
 
 pub row-end-spec : {M : Type 1} → statement M
-row-end-spec = tie.close (tie.spec returns sub-if2 returns-2 add-result returns-3)
+row-end-spec = tie.close (tie.spec returns (λ c. search needs) returns-2 (λ c. search needs) returns-3)

@@ -20,22 +20,13 @@ abbrev μ-loop : tie.MeasureT-loop
 loop-holds : tie.Need-loop-holds Inv-loop μ-loop
 loop-holds c = refl
 
-shared-slice-read-clear : tie.Need-shared-slice-read-clear Inv-loop μ-loop
-shared-slice-read-clear c = search needs
-
-add-i : tie.Need-add-i Inv-loop μ-loop
-add-i c = omega arith
-
-loop-less : tie.Need-loop-less Inv-loop μ-loop
-loop-less c = omega arith
-
 loop-again : tie.Need-loop-again Inv-loop μ-loop
 loop-again c =
     let l = c .before .before .loop in
-    zeros-on _ (l .i) (l .clear) _ (c .before .loop-test .taken) (l .inv)
+    zeros-on (c .before .before .before .args .q .now) (l .i) (l .clear) _ (omega arith) (l .inv)
 
 returns : tie.Need-returns Inv-loop μ-loop
-returns c = let l = c .before .loop in zeros-end _ (l .i) (l .clear) _ (c .loop-test .left) (l .inv)
+returns c = let l = c .before .loop in zeros-end (c .before .before .args .q .now) (l .i) (l .clear) _ (omega arith) (l .inv)
 
 pub zeros-from-spec : {M : Type 1} → statement M
 zeros-from-spec =
@@ -44,8 +35,8 @@ zeros-from-spec =
     Inv-loop
     μ-loop
     loop-holds
-    shared-slice-read-clear
-    add-i
-    loop-less
+    (λ c. search needs)
+    (λ c. omega arith)
+    (λ c. omega arith)
     loop-again
     returns)

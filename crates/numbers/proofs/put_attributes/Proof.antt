@@ -5,11 +5,8 @@ use Rattle.numbers.proofs.Laws.{part-same, part-other}
 use Rattle.numbers.proofs.put_attributes.Statement.{statement}
 use Rattle.numbers.proofs.put_attributes.Tie as tie
 
-put-number-requires : tie.Need-put-number-requires
-put-number-requires c κs = search needs
-
 returns : tie.Need-returns
 returns c = rw (c .put-number .ensures) (simp (part-same, part-other))
 
 pub put-attributes-spec : {M : Type 1} → statement M
-put-attributes-spec = tie.close (tie.spec put-number-requires returns)
+put-attributes-spec = tie.close (tie.spec (λ c κs. search needs) returns)

@@ -10,9 +10,6 @@ use Rattle.numbers.proofs.Laws.{part-same, part-other, part-long}
 use Rattle.numbers.proofs.put_time.Statement.{statement}
 use Rattle.numbers.proofs.put_time.Tie as tie
 
-put-number-requires : tie.Need-put-number-requires
-put-number-requires c κs = search needs
-
 returns : tie.Need-returns
 returns c =
     let ns = c .before .before .args .ns .now in
@@ -20,4 +17,4 @@ returns c =
     rw (c .put-number .ensures) (simp (part-same, part-other, getD-set-same))
 
 pub put-time-spec : {M : Type 1} → statement M
-put-time-spec = tie.close (tie.spec put-number-requires returns)
+put-time-spec = tie.close (tie.spec (λ c κs. search needs) returns)

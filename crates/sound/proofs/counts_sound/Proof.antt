@@ -21,26 +21,12 @@ abbrev μ-loop : tie.MeasureT-loop
 loop-holds : tie.Need-loop-holds Inv-loop μ-loop
 loop-holds c = (omega arith, below-none _)
 
-count-at-requires : tie.Need-count-at-requires Inv-loop μ-loop
-count-at-requires c κs = search needs
-
-maximum-at-requires : tie.Need-maximum-at-requires Inv-loop μ-loop
-maximum-at-requires c κs = search needs
-
-first-waiter-requires : tie.Need-first-waiter-requires Inv-loop μ-loop
-first-waiter-requires c κs = search needs
-
-count-sound-requires : tie.Need-count-sound-requires Inv-loop μ-loop
-count-sound-requires c κs = search needs
-
-add-m : tie.Need-add-m Inv-loop μ-loop
-add-m c = search needs
-
-loop-less : tie.Need-loop-less Inv-loop μ-loop
-loop-less c = omega arith
-
 loop-again : tie.Need-loop-again Inv-loop μ-loop
-loop-again c = let l = c .before .before .before .before .before .loop in (omega arith, below-on _ (l .m) (c .count-sound .result) (l .sound) (c .count-sound .ensures ∙ rw (c .before .before .before .count-at .ensures, c .before .before .maximum-at .ensures, c .before .first-waiter .ensures)) (l .inv .1))
+loop-again c =
+    let l = c .before .before .before .before .before .loop in (
+      omega arith,
+      below-on _ (l .m) (c .count-sound .result) (l .sound) (c .count-sound .ensures ∙ rw (c .before .before .before .count-at .ensures, c .before .before .maximum-at .ensures, c .before .first-waiter .ensures)) (l .inv .1),
+    )
 
 returns : tie.Need-returns Inv-loop μ-loop
 returns c = let l = c .before .loop in let e : l .m ≡ 13 = omega arith in rw e at (l .inv .1)
@@ -52,11 +38,11 @@ counts-sound-spec =
     Inv-loop
     μ-loop
     loop-holds
-    count-at-requires
-    maximum-at-requires
-    first-waiter-requires
-    count-sound-requires
-    add-m
-    loop-less
+    (λ c κs. search needs)
+    (λ c κs. search needs)
+    (λ c κs. search needs)
+    (λ c κs. search needs)
+    (λ c. search needs)
+    (λ c. omega arith)
     loop-again
     returns)

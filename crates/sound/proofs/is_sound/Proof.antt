@@ -5,14 +5,8 @@ use borrow.Author.Needs.{needs}
 use Rattle.sound.proofs.is_sound.Statement.{statement}
 use Rattle.sound.proofs.is_sound.Tie as tie
 
-spread-requires : tie.Need-spread-requires
-spread-requires c κs = search needs
-
-sound-in-requires : tie.Need-sound-in-requires
-sound-in-requires c κs = search needs
-
 returns : tie.Need-returns
 returns c = c .sound-in .ensures ∙ rw (c .before .before .before .before .before .before .spread .ensures)
 
 pub is-sound-spec : {M : Type 1} → statement M
-is-sound-spec = tie.close (tie.spec spread-requires sound-in-requires returns)
+is-sound-spec = tie.close (tie.spec (λ c κs. search needs) (λ c κs. search needs) returns)

@@ -28,44 +28,34 @@ abbrev μ-loop : tie.MeasureT-loop
 loop-holds : tie.Need-loop-holds Inv-loop μ-loop
 loop-holds c = (omega arith, refl, refl, below-none _, below-none _, refl, refl)
 
-record-at-requires : tie.Need-record-at-requires Inv-loop μ-loop
-record-at-requires c κs = search needs
-
-cast-bits-at : tie.Need-cast-bits-at Inv-loop μ-loop
-cast-bits-at c = search needs
-
-bits-at-requires : tie.Need-bits-at-requires Inv-loop μ-loop
-bits-at-requires c κs = search needs
-
-task-sound-requires : tie.Need-task-sound-requires Inv-loop μ-loop
-task-sound-requires c κs = search needs
-
-is-unmet-requires : tie.Need-is-unmet-requires Inv-loop μ-loop
-is-unmet-requires c κs = search needs
-
-level-of-requires : tie.Need-level-of-requires Inv-loop μ-loop
-level-of-requires c κs = search needs
-
-row-of-requires : tie.Need-row-of-requires Inv-loop μ-loop
-row-of-requires c κs = search needs
-
-array-write-levels : tie.Need-array-write-levels Inv-loop μ-loop
-array-write-levels c = search needs
-
-array-write-rows : tie.Need-array-write-rows Inv-loop μ-loop
-array-write-rows c = search needs
-
-add-t : tie.Need-add-t Inv-loop μ-loop
-add-t c = search needs
-
-loop-less : tie.Need-loop-less Inv-loop μ-loop
-loop-less c = omega arith
-
 loop-again : tie.Need-loop-again Inv-loop μ-loop
-loop-again c = let l = c .before .before .before .before .before .before .before .before .before .loop in let a = c .before .before .before .before .before .before .before .before .before .before .args in let xs = tasksOf (a .bytes .now) (a .words .now) in let r = c .before .before .before .before .before .before .before .record-at .ensures in let n = length-tasks (a .bytes .now) (a .words .now) in (omega arith, simp length-set (l .inv .1), simp length-set (l .inv .2), below-on _ (l .t) (c .before .before .before .task-sound .result) (l .sound) (c .before .before .before .task-sound .ensures ∙ rw r) (l .inv .3), below-on _ (l .t) (c .before .before .is-unmet .result) (l .unmet) (c .before .before .is-unmet .ensures ∙ rw (c .before .before .before .before .bits-at .ensures, r)) (l .inv .4), rw (c .before .level-of .ensures, r) (fill-on levelOf xs (l .levels) (l .t) _ (omega arith) (omega arith) (l .inv .5)), rw (c .row-of .ensures, r) (fill-on rowOf xs (l .rows) (l .t) _ (omega arith) (omega arith) (l .inv .6)))
+loop-again c =
+    let l = c .before .before .before .before .before .before .before .before .before .loop in
+    let a = c .before .before .before .before .before .before .before .before .before .before .args in
+    let xs = tasksOf (a .bytes .now) (a .words .now) in
+    let r = c .before .before .before .before .before .before .before .record-at .ensures in
+    let n = length-tasks (a .bytes .now) (a .words .now) in (
+      omega arith,
+      simp length-set (l .inv .1),
+      simp length-set (l .inv .2),
+      below-on _ (l .t) (c .before .before .before .task-sound .result) (l .sound) (c .before .before .before .task-sound .ensures ∙ rw r) (l .inv .3),
+      below-on _ (l .t) (c .before .before .is-unmet .result) (l .unmet) (c .before .before .is-unmet .ensures ∙ rw (c .before .before .before .before .bits-at .ensures, r)) (l .inv .4),
+      rw (c .before .level-of .ensures, r) (fill-on levelOf xs (l .levels) (l .t) _ (omega arith) (omega arith) (l .inv .5)),
+      rw (c .row-of .ensures, r) (fill-on rowOf xs (l .rows) (l .t) _ (omega arith) (omega arith) (l .inv .6)),
+    )
 
 returns : tie.Need-returns Inv-loop μ-loop
-returns c = let l = c .before .loop in let a = c .before .before .args in let n = length-tasks (a .bytes .now) (a .words .now) in let e : l .t ≡ 25 = omega arith in rw (rw e at (l .inv .3), rw e at (l .inv .4), fill-end levelOf (tasksOf (a .bytes .now) (a .words .now)) (l .levels) (l .t) (omega arith) (omega arith) (l .inv .5), fill-end rowOf (tasksOf (a .bytes .now) (a .words .now)) (l .rows) (l .t) (omega arith) (omega arith) (l .inv .6))
+returns c =
+    let l = c .before .loop in
+    let a = c .before .before .args in
+    let n = length-tasks (a .bytes .now) (a .words .now) in
+    let e : l .t ≡ 25 = omega arith in
+    rw (
+      rw e at (l .inv .3),
+      rw e at (l .inv .4),
+      fill-end levelOf (tasksOf (a .bytes .now) (a .words .now)) (l .levels) (l .t) (omega arith) (omega arith) (l .inv .5),
+      fill-end rowOf (tasksOf (a .bytes .now) (a .words .now)) (l .rows) (l .t) (omega arith) (omega arith) (l .inv .6),
+    )
 
 pub look-spec : {M : Type 1} → statement M
 look-spec =
@@ -74,16 +64,16 @@ look-spec =
     Inv-loop
     μ-loop
     loop-holds
-    record-at-requires
-    cast-bits-at
-    bits-at-requires
-    task-sound-requires
-    is-unmet-requires
-    level-of-requires
-    row-of-requires
-    array-write-levels
-    array-write-rows
-    add-t
-    loop-less
+    (λ c κs. search needs)
+    (λ c. search needs)
+    (λ c κs. search needs)
+    (λ c κs. search needs)
+    (λ c κs. search needs)
+    (λ c κs. search needs)
+    (λ c κs. search needs)
+    (λ c. search needs)
+    (λ c. search needs)
+    (λ c. search needs)
+    (λ c. omega arith)
     loop-again
     returns)

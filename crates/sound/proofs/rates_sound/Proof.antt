@@ -20,23 +20,12 @@ abbrev μ-loop : tie.MeasureT-loop
 loop-holds : tie.Need-loop-holds Inv-loop μ-loop
 loop-holds c = (omega arith, below-none _)
 
-slice-at-requires : tie.Need-slice-at-requires Inv-loop μ-loop
-slice-at-requires c κs = search needs
-
-charge-at-requires : tie.Need-charge-at-requires Inv-loop μ-loop
-charge-at-requires c κs = search needs
-
-rate-sound-requires : tie.Need-rate-sound-requires Inv-loop μ-loop
-rate-sound-requires c κs = search needs
-
-add-l : tie.Need-add-l Inv-loop μ-loop
-add-l c = search needs
-
-loop-less : tie.Need-loop-less Inv-loop μ-loop
-loop-less c = omega arith
-
 loop-again : tie.Need-loop-again Inv-loop μ-loop
-loop-again c = let l = c .before .before .before .before .loop in (omega arith, below-on _ (l .l) (c .rate-sound .result) (l .sound) (c .rate-sound .ensures ∙ rw (c .before .before .slice-at .ensures, c .before .charge-at .ensures)) (l .inv .1))
+loop-again c =
+    let l = c .before .before .before .before .loop in (
+      omega arith,
+      below-on _ (l .l) (c .rate-sound .result) (l .sound) (c .rate-sound .ensures ∙ rw (c .before .before .slice-at .ensures, c .before .charge-at .ensures)) (l .inv .1),
+    )
 
 returns : tie.Need-returns Inv-loop μ-loop
 returns c = let l = c .before .loop in let e : l .l ≡ 31 = omega arith in rw e at (l .inv .1)
@@ -48,10 +37,10 @@ rates-sound-spec =
     Inv-loop
     μ-loop
     loop-holds
-    slice-at-requires
-    charge-at-requires
-    rate-sound-requires
-    add-l
-    loop-less
+    (λ c κs. search needs)
+    (λ c κs. search needs)
+    (λ c κs. search needs)
+    (λ c. search needs)
+    (λ c. omega arith)
     loop-again
     returns)

@@ -15,26 +15,8 @@ Inv-loop bytes words r₀ t₀ r t = (t ≤ 25) × (length r ≡ 25) × (take t 
 abbrev μ-loop : tie.MeasureT-loop
 μ-loop bytes words r₀ t₀ r t = 25 - t
 
-no-task-requires : tie.Need-no-task-requires Inv-loop μ-loop
-no-task-requires c κs = search needs
-
 loop-holds : tie.Need-loop-holds Inv-loop μ-loop
 loop-holds c = (omega arith, refl, refl)
-
-record-at-requires : tie.Need-record-at-requires Inv-loop μ-loop
-record-at-requires c κs = search needs
-
-mul-r : tie.Need-mul-r Inv-loop μ-loop
-mul-r c = search needs
-
-array-set-from-r : tie.Need-array-set-from-r Inv-loop μ-loop
-array-set-from-r c = search needs
-
-add-t : tie.Need-add-t Inv-loop μ-loop
-add-t c = search needs
-
-loop-less : tie.Need-loop-less Inv-loop μ-loop
-loop-less c = search needs
 
 loop-again : tie.Need-loop-again Inv-loop μ-loop
 loop-again c = let l = c .before .before .loop in (omega arith, simp length-set (l .inv .1), law.fills _ _ _ _ (l .inv .1) (law.length-tasks _ _) (c .before .loop-test .taken) (c .record-at .ensures) (l .inv .2))
@@ -48,12 +30,12 @@ gather-spec =
     (tie.spec
     Inv-loop
     μ-loop
-    no-task-requires
+    (λ c κs. search needs)
     loop-holds
-    record-at-requires
-    mul-r
-    array-set-from-r
-    add-t
-    loop-less
+    (λ c κs. search needs)
+    (λ c. search needs)
+    (λ c. search needs)
+    (λ c. search needs)
+    (λ c. search needs)
     loop-again
     returns)

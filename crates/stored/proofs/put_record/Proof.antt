@@ -11,23 +11,8 @@ use Rattle.stored.proofs.put_record.Tie as tie
 returns : tie.Need-returns
 returns c = sym (set-out _ _ _ (omega (arith, length-tasks (c .before .args .bytes .now) (c .before .args .words .now))))
 
-mul-put-own : tie.Need-mul-put-own
-mul-put-own c = search needs
-
-put-own-requires : tie.Need-put-own-requires
-put-own-requires c κs = search needs
-
-mul-put-wait : tie.Need-mul-put-wait
-mul-put-wait c = search needs
-
-put-wait-requires : tie.Need-put-wait-requires
-put-wait-requires c κs = search needs
-
-put-words-requires : tie.Need-put-words-requires
-put-words-requires c κs = search needs
-
 returns-2 : tie.Need-returns-2
 returns-2 c = let a = c .before .before .before .before .before .before .before .before .before .args in rw (c .put-words .ensures, c .before .put-wait .ensures, c .before .before .before .before .put-own .ensures) (wrote (a .bytes .now) (a .words .now) (a .t) (a .x) (omega arith) (omega arith) (omega arith))
 
 pub put-record-spec : {M : Type 1} → statement M
-put-record-spec = tie.close (tie.spec returns mul-put-own put-own-requires mul-put-wait put-wait-requires put-words-requires returns-2)
+put-record-spec = tie.close (tie.spec returns (λ c. search needs) (λ c κs. search needs) (λ c. search needs) (λ c κs. search needs) (λ c κs. search needs) returns-2)

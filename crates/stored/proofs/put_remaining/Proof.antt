@@ -12,14 +12,8 @@ returns : tie.Need-returns
 returns c = let a = c .before .args in
     sym (set-out (tasksOf (a .bytes .now) (a .words .now)) (a .t) _ (omega (arith, length-tasks (a .bytes .now) (a .words .now))))
 
-mul-w : tie.Need-mul-w
-mul-w c = search needs
-
-slice-write-w : tie.Need-slice-write-w
-slice-write-w c = search needs
-
 returns-2 : tie.Need-returns-2
 returns-2 c = fell _ _ _ _ (omega arith) (omega arith)
 
 pub put-remaining-spec : {M : Type 1} → statement M
-put-remaining-spec = tie.close (tie.spec returns mul-w slice-write-w returns-2)
+put-remaining-spec = tie.close (tie.spec returns (λ c. search needs) (λ c. search needs) returns-2)

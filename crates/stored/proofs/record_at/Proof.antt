@@ -6,17 +6,11 @@ use borrow.Author.Needs.{needs}
 use Rattle.stored.proofs.record_at.Statement.{statement}
 use Rattle.stored.proofs.record_at.Tie as tie
 
-no-task-requires : tie.Need-no-task-requires
-no-task-requires c κs = search needs
-
 returns : tie.Need-returns
 returns c = c .no-task .ensures ∙ sym (read-past _ _ _ (omega arith))
-
-record-in-requires : tie.Need-record-in-requires
-record-in-requires c κs = search needs
 
 returns-2 : tie.Need-returns-2
 returns-2 c = c .record-in .ensures ∙ sym (read _ _ _ (omega arith))
 
 pub record-at-spec : {M : Type 1} → statement M
-record-at-spec = tie.close (tie.spec no-task-requires returns record-in-requires returns-2)
+record-at-spec = tie.close (tie.spec (λ c κs. search needs) returns (λ c κs. search needs) returns-2)

@@ -18,21 +18,6 @@ abbrev μ-loop : tie.MeasureT-loop
 loop-holds : tie.Need-loop-holds Inv-loop μ-loop
 loop-holds c = (omega arith, refl)
 
-mul-put-record : tie.Need-mul-put-record Inv-loop μ-loop
-mul-put-record c = search needs
-
-array-copy-out-put-record : tie.Need-array-copy-out-put-record Inv-loop μ-loop
-array-copy-out-put-record c = search needs
-
-put-record-requires : tie.Need-put-record-requires Inv-loop μ-loop
-put-record-requires c κs = search needs
-
-add-t : tie.Need-add-t Inv-loop μ-loop
-add-t c = search needs
-
-loop-less : tie.Need-loop-less Inv-loop μ-loop
-loop-less c = search needs
-
 loop-again : tie.Need-loop-again Inv-loop μ-loop
 loop-again c =
     let l = c .before .before .before .before .before .loop in
@@ -51,10 +36,10 @@ spread-spec =
     Inv-loop
     μ-loop
     loop-holds
-    mul-put-record
-    array-copy-out-put-record
-    put-record-requires
-    add-t
-    loop-less
+    (λ c. search needs)
+    (λ c. search needs)
+    (λ c κs. search needs)
+    (λ c. search needs)
+    (λ c. search needs)
     loop-again
     returns)

@@ -5,12 +5,9 @@ use Rattle.model.specs.Test.{isFlagSound}
 use Rattle.sound.proofs.flag.flag_sound.Statement.{statement}
 use Rattle.sound.proofs.flag.flag_sound.Tie as tie
 
-are-kept-requires : tie.Need-are-kept-requires
-are-kept-requires c κs = search needs
-
 returns : tie.Need-returns
 unfolding isFlagSound
 returns c = rw (c .are-kept .ensures)
 
 pub flag-sound-spec : {M : Type 1} → statement M
-flag-sound-spec = tie.close (tie.spec are-kept-requires returns)
+flag-sound-spec = tie.close (tie.spec (λ c κs. search needs) returns)

@@ -5,15 +5,9 @@ use Rattle.model.specs.Test.{isUnmet}
 use Rattle.sound.proofs.flag.is_unmet.Statement.{statement}
 use Rattle.sound.proofs.flag.is_unmet.Tie as tie
 
-cast-is-met : tie.Need-cast-is-met
-cast-is-met c = search needs
-
-is-met-requires : tie.Need-is-met-requires
-is-met-requires c κs = search needs
-
 returns : tie.Need-returns
 unfolding isUnmet
 returns c = rw (c .is-met .ensures)
 
 pub is-unmet-spec : {M : Type 1} → statement M
-is-unmet-spec = tie.close (tie.spec cast-is-met is-met-requires returns)
+is-unmet-spec = tie.close (tie.spec (λ c. search needs) (λ c κs. search needs) returns)

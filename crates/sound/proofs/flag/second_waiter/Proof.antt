@@ -11,18 +11,9 @@ use Rattle.sound.proofs.flag.second_waiter.Tie as tie
 returns : tie.Need-returns
 returns c = let a = c .before .before .args in sym (sym (second-queue 21 (a .waits .now) (omega arith) (a .l)) ∙ List·getD-eq-default (a .waits .now) 0 (omega arith))
 
-mul-result : tie.Need-mul-result
-mul-result c = search needs
-
-add-result : tie.Need-add-result
-add-result c = search needs
-
-shared-slice-read-result : tie.Need-shared-slice-read-result
-shared-slice-read-result c = search needs
-
 returns-2 : tie.Need-returns-2
 returns-2 c = second-queue 21 _ (omega arith) _
 
 pub second-waiter-spec : {M : Type 1} → statement M
 second-waiter-spec =
-    tie.close (tie.spec returns mul-result add-result shared-slice-read-result returns-2)
+    tie.close (tie.spec returns (λ c. search needs) (λ c. search needs) (λ c. search needs) returns-2)

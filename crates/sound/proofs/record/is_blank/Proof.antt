@@ -5,11 +5,8 @@ use borrow.Author.Needs.{needs}
 use Rattle.sound.proofs.record.is_blank.Statement.{statement}
 use Rattle.sound.proofs.record.is_blank.Tie as tie
 
-is-no-wait-requires : tie.Need-is-no-wait-requires
-is-no-wait-requires c κs = search needs
-
 returns : tie.Need-returns
 returns c = rw (c .before .before .before .before .before .before .before .before .is-no-wait .ensures) (simp and-assoc)
 
 pub is-blank-spec : {M : Type 1} → statement M
-is-blank-spec = tie.close (tie.spec is-no-wait-requires returns)
+is-blank-spec = tie.close (tie.spec (λ c κs. search needs) returns)

@@ -5,11 +5,8 @@ use borrow.Author.Needs.{needs}
 use Rattle.sound.proofs.record.is_origin.Statement.{statement}
 use Rattle.sound.proofs.record.is_origin.Tie as tie
 
-is-blank-requires : tie.Need-is-blank-requires
-is-blank-requires c κs = search needs
-
 returns : tie.Need-returns
 returns c = rw (c .is-blank .ensures) (simp and-assoc)
 
 pub is-origin-spec : {M : Type 1} → statement M
-is-origin-spec = tie.close (tie.spec is-blank-requires returns)
+is-origin-spec = tie.close (tie.spec (λ c κs. search needs) returns)

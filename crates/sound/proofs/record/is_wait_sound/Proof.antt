@@ -12,16 +12,10 @@ returns c = rw (eq-eqb _ _ (c .if1 .taken))
 returns-2 : tie.Need-returns-2
 returns-2 c = rw (ne-eqb _ _ (c .before .if1 .left), eq-eqb _ _ (c .if2 .taken)) (simp and-assoc)
 
-is-within-requires : tie.Need-is-within-requires
-is-within-requires c κs = search needs
-
 returns-3 : tie.Need-returns-3
 returns-3 c =
     rw (c .is-within .ensures, ne-eqb _ _ (c .before .before .before .if1 .left), ne-eqb _ _ (c .before .before .if2 .left), eq-eqb _ _ (c .before .if3 .taken))
     (simp and-assoc)
-
-is-within-requires-2 : tie.Need-is-within-requires-2
-is-within-requires-2 c κs = search needs
 
 returns-4 : tie.Need-returns-4
 returns-4 c =
@@ -29,4 +23,4 @@ returns-4 c =
     (simp and-assoc)
 
 pub is-wait-sound-spec : {M : Type 1} → statement M
-is-wait-sound-spec = tie.close (tie.spec returns returns-2 is-within-requires returns-3 is-within-requires-2 returns-4)
+is-wait-sound-spec = tie.close (tie.spec returns returns-2 (λ c κs. search needs) returns-3 (λ c κs. search needs) returns-4)
