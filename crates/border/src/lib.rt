@@ -24,7 +24,7 @@ pub enum From {
     Nowhere,
 }
 
-pub fn context_of(n: u32) -> From
+fn context_of(n: u32) -> From
     ensures { λ r. ⌜ r ≡ contextOf n ⌝ }
 {
     match n {
@@ -34,7 +34,7 @@ pub fn context_of(n: u32) -> From
     }
 }
 
-pub fn code_number(code: Code) -> i32
+fn code_number(code: Code) -> i32
     ensures { λ r. ⌜ r ≡ number code ⌝ }
 {
     match code {

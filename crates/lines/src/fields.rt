@@ -59,7 +59,7 @@ fn comma_field(s: &[u8], used: bool) -> Number
 }
 
 // LF, CR LF or the end of the file.
-pub fn line_end(s: &[u8]) -> End
+pub(crate) fn line_end(s: &[u8]) -> End
     ensures { λ r. ⌜ r ≡ endOf (now (s .entry)) ⌝ }
 {
     if s.len() == 0 {
@@ -126,7 +126,7 @@ fn read_tail(s: &[u8], wide: bool, takes: u8) -> Tail
 }
 
 // The fields a, b, c and d, of which the first `takes` are used; only wide lines have a d.
-pub fn read_fields(s: &[u8], wide: bool, takes: u8) -> Fields
+pub(crate) fn read_fields(s: &[u8], wide: bool, takes: u8) -> Fields
     ensures { λ r. ⌜ r ≡ fieldsOf wide takes (now (s .entry)) ⌝ }
 {
     let Number::Digits { value: a, next: i } = comma_field(s, 0 < takes) else {

@@ -1,6 +1,6 @@
 -- The table of services: each by its name in document 000, the context that it belongs to, what its numbers are, and the call that they
 -- make. A service's number is its row, from 1 on. The border, the line reader and the context test read this table.
-use Prim.Native.Nat.{ℕ, suc, _-_}
+use Prim.Native.Nat.{ℕ, zero, suc}
 use Prim.Native.String.{String}
 use mathlib.Core.Bool.{Bool, true, false}
 use mathlib.Core.List.{List, [], _∷_, _++_}
@@ -85,9 +85,13 @@ events =
 unfoldable pub services : List Service
 services = tasks ++ (system ++ (semaphores ++ events))
 
+abbrev none : Service
+none = row "" I [] (λ a b c d. TickIntProcessing)
+
 -- by its number, from 1 on; a number that names no service stands for the tick
 unfoldable pub service : ℕ → Service
-service k = getD services (k - 1) (row "" I [] (λ a b c d. TickIntProcessing))
+service zero = none
+service (suc k) = getD services k none
 
 -- ---- which service a call is of
 abbrev pub eventNumber : Events.Event → ℕ

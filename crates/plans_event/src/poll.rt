@@ -13,7 +13,7 @@ use model::Flag;
 use model::Plan;
 use records::is_met;
 
-pub fn event_poll(mine: bool, flag: u32, pattern: u32, mode: u32, y: Flag) -> Plan
+pub(crate) fn event_poll(mine: bool, flag: u32, pattern: u32, mode: u32, y: Flag) -> Plan
     ensures { λ r. ⌜ r ≡ eventPoll mine flag pattern mode y ⌝ }
 {
     let gate = checked(

@@ -2,7 +2,7 @@
 -- Rests on the statement in specs/Tight.
 use mathlib.Core.Path.{_≡_, refl, sym, _∙_, ap}
 use mathlib.Core.List.{List}
-use Prim.Native.Nat.{ℕ}
+use Prim.Native.Nat.{ℕ, _*_}
 use lib.ListN.{length}
 use mir.Syntax.{Lifetime}
 use prog.Routine.{Routine}
@@ -19,8 +19,15 @@ use denote.Triple.Entry.{Args}
 use borrow.Fn.World.{World}
 use Rattle.model.specs.declared.Task.{Task}
 use Rattle.model.specs.declared.State.{State}
+use Rattle.model.specs.declared.Queue.{Queue}
+use Rattle.model.specs.declared.Numbers.{Numbers}
 use Rattle.stored.specs.Stored.{tasksOf}
 use Rattle.stored.proofs.Laws.{same-bytes, same-words}
+use Rattle.queues.specs.Queues.{queuesOf}
+use Rattle.queues.proofs.Same.{same-queues}
+use Rattle.numbers.specs.Numbers.{heldIn}
+use Rattle.numbers.proofs.Same.{same-numbers}
+use Rattle.tables.specs.Lent.{stateIn}
 use Rattle.promises.specs.Tight.{Contract, Keeps, OfType, Outcome, clauses, Open, Coincide, Tight, Promise}
 
 -- a row whose outcomes coincide, of their types or not,
@@ -75,31 +82,73 @@ besides p q = both (p .0, p .1 .0) (q .0, q .1 .0)
 pub answer : {A B U : Type 0} {r s d : A} {q t e : B} {u : U} → (r ≡ d) × (q ≡ e) → (s ≡ d) × (t ≡ e) → _≡_ {A = A × (Unit {0} × (B × U))} (r, (tt, (q, u))) (s, (tt, (t, u)))
 answer {u = u} p q i = (fixed (λ x. x) (p .0) (q .0) i, (tt, (fixed (λ x. x) (p .1) (q .1) i, u)))
 
--- ---- tables read off the state that the contract puts them into
-abbrev pub queues : {U : Type 0} → State → U → List ℕ × (List ℕ × U)
-queues s u = (s .levels, (s .waits, u))
-
-abbrev pub tables : {U : Type 0} → State → U → List ℕ × (List ℕ × (List ℕ × (List ℕ × (List ℕ × (List ℕ × (List ℕ × (List ℕ × (ℕ × U))))))))
-tables s u = queues s (s .slices, (s .charges, (s .counts, (s .maxima, (s .attributes, (s .bits, (s .time, u)))))))
-
--- ---- the two tables that store the records: a contract speaks of their `tasksOf`, by which tables of these lengths are told
+-- ---- lent tables: a contract speaks of what they stand for, by which tables of their lengths are told
 abbrev Lent : (R : RattleType) → ℕ → Lifetime → Lft → RefT (List (R .Denot)) → List (R .Denot) → Type 2
 Lent R n ℓ κ = OfType (MutRef ℓ κ (Array R n))
 
 long : (R : RattleType) (n : ℕ) {ℓ : Lifetime} {κ : Lft} {x : RefT (List (R .Denot))} {v : List (R .Denot)} → Lent R n ℓ κ x v → length v ≡ n
 long R n {ℓ} {κ} {x} {v} i = i .stands ℓ κ (Array R n) x v refl .1 .1 .0 .1
 
--- what both hold, from a table of records or what has one; the outcome is read off the three
-pub lent : {ℓ ℓ′ : Lifetime} {κ κ′ : Lft} {x x′ : RefT (List ℕ)} {X Y : Type 2} {b c v w : List ℕ} {A O : Type 0} {s t d : A}
-    → (tasks : A → List Task) (off : List ℕ → List ℕ → A → O)
-    → Lent u8 250 ℓ κ x b × (Lent u32 75 ℓ′ κ′ x′ v × X) → Lent u8 250 ℓ κ x c × (Lent u32 75 ℓ′ κ′ x′ w × Y)
-    → tasks s ≡ tasksOf b v → tasks t ≡ tasksOf c w → s ≡ d → t ≡ d → off b v s ≡ off c w t
-lent {b = b} {c = c} {v = v} {w = w} {s = s} {t = t} tasks off i j m n p q =
-    let e : s ≡ t = p ∙ sym q in
-    let f : tasksOf b v ≡ tasksOf c w = sym m ∙ ap tasks e ∙ n in
-    λ k. off (same-bytes b v c w (long u8 250 (i .0)) (long u8 250 (j .0)) f k) (same-words b v c w (long u32 75 (i .1 .0)) (long u32 75 (j .1 .0)) f k) (e k)
+module _ {ℓ ℓ₂ ℓ₃ ℓ₄ ℓ₅ : Lifetime} {κ κ₂ κ₃ κ₄ κ₅ : Lft} {x x₂ x₃ x₄ x₅ : RefT (List ℕ)} {W X Y Z : Type 2} where
+  -- the bytes and the words of the records
+  pub records : {b c v w : List ℕ} {d : List Task} {U : Type 0} {u : U}
+      → Lent u8 250 ℓ κ x b × (Lent u32 75 ℓ₂ κ₂ x₂ v × X) → Lent u8 250 ℓ κ x c × (Lent u32 75 ℓ₂ κ₂ x₂ w × Y) → tasksOf b v ≡ d → tasksOf c w ≡ d
+      → _≡_ {A = Unit {0} × (List ℕ × (List ℕ × U))} (tt, (b, (v, u))) (tt, (c, (w, u)))
+  records {b} {c} {v} {w} {u = u} i j p q k =
+      (tt, (same-bytes b v c w (long u8 250 (i .0)) (long u8 250 (j .0)) (p ∙ sym q) k, (same-words b v c w (long u32 75 (i .1 .0)) (long u32 75 (j .1 .0)) (p ∙ sym q) k, u)))
 
--- what the second holds, where the first is only read
-pub words : {ℓ : Lifetime} {κ : Lft} {x : RefT (List ℕ)} {W X Y Z : Type 2} {U : Type 0} {u : U} {v w : List ℕ} {d : List Task} (b : List ℕ)
-    → W × (Lent u32 75 ℓ κ x v × X) → Y × (Lent u32 75 ℓ κ x w × Z) → tasksOf b v ≡ d → tasksOf b w ≡ d → _≡_ {A = Unit {0} × (Unit {0} × (List ℕ × U))} (tt, (tt, (v, u))) (tt, (tt, (w, u)))
-words {u = u} {v = v} {w = w} b i j p q k = (tt, (tt, (same-words b v b w (long u32 75 (i .1 .0)) (long u32 75 (j .1 .0)) (p ∙ sym q) k, u)))
+  -- the words alone, where the bytes are only read
+  pub words : {U : Type 0} {u : U} {v w : List ℕ} {d : List Task} (b : List ℕ)
+      → W × (Lent u32 75 ℓ κ x v × X) → Y × (Lent u32 75 ℓ κ x w × Z) → tasksOf b v ≡ d → tasksOf b w ≡ d → _≡_ {A = Unit {0} × (Unit {0} × (List ℕ × U))} (tt, (tt, (v, u))) (tt, (tt, (w, u)))
+  words {u = u} {v = v} {w = w} b i j p q k = (tt, (tt, (same-words b v b w (long u32 75 (i .1 .0)) (long u32 75 (j .1 .0)) (p ∙ sym q) k, u)))
+
+  -- the numbers
+  pub numbers : {U : Type 0} {u : U} {n m : List ℕ} {d : Numbers} → Lent u32 107 ℓ κ x n × X → Lent u32 107 ℓ κ x m × Y → heldIn n ≡ d → heldIn m ≡ d
+      → _≡_ {A = Unit {0} × (List ℕ × U)} (tt, (n, u)) (tt, (m, u))
+  numbers {u = u} {n = n} {m = m} i j p q k = (tt, (same-numbers n m (long u32 107 (i .0)) (long u32 107 (j .0)) (p ∙ sym q) k, u))
+
+  -- n queues
+  pub queues : (n : ℕ) {U : Type 0} {u : U} {l m : List ℕ} {d : List Queue} → Lent u8 (n * 24) ℓ κ x l × X → Lent u8 (n * 24) ℓ κ x m × Y → queuesOf n l ≡ d → queuesOf n m ≡ d
+      → _≡_ {A = Unit {0} × (List ℕ × U)} (tt, (l, u)) (tt, (m, u))
+  queues n {u = u} {l = l} {m = m} i j p q k = (tt, (same-queues n l m (long u8 (n * 24) (i .0)) (long u8 (n * 24) (j .0)) (p ∙ sym q) k, u))
+
+  -- all five, from the state that they stand for or what has one; the outcome is read off
+  pub five : {b c v w l m q r n o : List ℕ} {A O : Type 0} {s t d : A} (state : A → State) (off : List ℕ → List ℕ → List ℕ → List ℕ → List ℕ → A → O)
+      → Lent u8 250 ℓ κ x b × (Lent u32 75 ℓ₂ κ₂ x₂ v × (Lent u8 744 ℓ₃ κ₃ x₃ l × (Lent u8 504 ℓ₄ κ₄ x₄ q × (Lent u32 107 ℓ₅ κ₅ x₅ n × X))))
+      → Lent u8 250 ℓ κ x c × (Lent u32 75 ℓ₂ κ₂ x₂ w × (Lent u8 744 ℓ₃ κ₃ x₃ m × (Lent u8 504 ℓ₄ κ₄ x₄ r × (Lent u32 107 ℓ₅ κ₅ x₅ o × Y))))
+      → state s ≡ stateIn b v l q n → state t ≡ stateIn c w m r o → s ≡ d → t ≡ d → off b v l q n s ≡ off c w m r o t
+  five {b} {c} {v} {w} {l} {m} {q} {r} {n} {o} {s = s} {t = t} state off i j e f g h =
+      let a : s ≡ t = g ∙ sym h in
+      let z : stateIn b v l q n ≡ stateIn c w m r o = sym e ∙ ap state a ∙ f in
+      let ts : tasksOf b v ≡ tasksOf c w = ap (λ (y : State). y .tasks) z in
+      λ k. off
+      (same-bytes b v c w (long u8 250 (i .0)) (long u8 250 (j .0)) ts k)
+      (same-words b v c w (long u32 75 (i .1 .0)) (long u32 75 (j .1 .0)) ts k)
+      (same-queues 31 l m (long u8 744 (i .1 .1 .0)) (long u8 744 (j .1 .1 .0)) (ap (λ (y : State). y .levels) z) k)
+      (same-queues 21 q r (long u8 504 (i .1 .1 .1 .0)) (long u8 504 (j .1 .1 .1 .0)) (ap (λ (y : State). y .waits) z) k)
+      (same-numbers n o (long u32 107 (i .1 .1 .1 .1 .0)) (long u32 107 (j .1 .1 .1 .1 .0)) (ap (λ (y : State). y .numbers) z) k)
+      (a k)
+
+  -- all but the numbers, which are only read
+  pub four : {b c v w l m q r : List ℕ} {d : State} {U : Type 0} {u : U} (n : List ℕ)
+      → Lent u8 250 ℓ κ x b × (Lent u32 75 ℓ₂ κ₂ x₂ v × (Lent u8 744 ℓ₃ κ₃ x₃ l × (Lent u8 504 ℓ₄ κ₄ x₄ q × X)))
+      → Lent u8 250 ℓ κ x c × (Lent u32 75 ℓ₂ κ₂ x₂ w × (Lent u8 744 ℓ₃ κ₃ x₃ m × (Lent u8 504 ℓ₄ κ₄ x₄ r × Y)))
+      → stateIn b v l q n ≡ d → stateIn c w m r n ≡ d
+      → _≡_ {A = Unit {0} × (List ℕ × (List ℕ × (List ℕ × (List ℕ × (Unit {0} × U)))))} (tt, (b, (v, (l, (q, (tt, u)))))) (tt, (c, (w, (m, (r, (tt, u))))))
+  four {b} {c} {v} {w} {l} {m} {q} {r} {u = u} n i j e f =
+      let z : stateIn b v l q n ≡ stateIn c w m r n = e ∙ sym f in
+      let ts : tasksOf b v ≡ tasksOf c w = ap (λ (y : State). y .tasks) z in
+      λ k. (tt, (same-bytes b v c w (long u8 250 (i .0)) (long u8 250 (j .0)) ts k, (same-words b v c w (long u32 75 (i .1 .0)) (long u32 75 (j .1 .0)) ts k, (
+        same-queues 31 l m (long u8 744 (i .1 .1 .0)) (long u8 744 (j .1 .1 .0)) (ap (λ (y : State). y .levels) z) k,
+        (same-queues 21 q r (long u8 504 (i .1 .1 .1 .0)) (long u8 504 (j .1 .1 .1 .0)) (ap (λ (y : State). y .waits) z) k, (tt, u)),
+      ))))
+
+  -- the levels and the numbers, where the others are only read
+  pub charged : {l m n o : List ℕ} {d : State} {V V₂ V₃ V₄ V₅ V₆ : Type 2} {U : Type 0} {u : U} (b v q : List ℕ)
+      → V × (V₂ × (Lent u8 744 ℓ₃ κ₃ x₃ l × (V₃ × (Lent u32 107 ℓ₅ κ₅ x₅ n × X)))) → V₄ × (V₅ × (Lent u8 744 ℓ₃ κ₃ x₃ m × (V₆ × (Lent u32 107 ℓ₅ κ₅ x₅ o × Y))))
+      → stateIn b v l q n ≡ d → stateIn b v m q o ≡ d
+      → _≡_ {A = Unit {0} × (Unit {0} × (Unit {0} × (List ℕ × (Unit {0} × (List ℕ × U)))))} (tt, (tt, (tt, (l, (tt, (n, u)))))) (tt, (tt, (tt, (m, (tt, (o, u))))))
+  charged {l} {m} {n} {o} {u = u} b v q i j e f =
+      let z : stateIn b v l q n ≡ stateIn b v m q o = e ∙ sym f in
+      λ k. (tt, (tt, (tt, (same-queues 31 l m (long u8 744 (i .1 .1 .0)) (long u8 744 (j .1 .1 .0)) (ap (λ (y : State). y .levels) z) k,
+      (tt, (same-numbers n o (long u32 107 (i .1 .1 .1 .1 .0)) (long u32 107 (j .1 .1 .1 .1 .0)) (ap (λ (y : State). y .numbers) z) k, u))))))

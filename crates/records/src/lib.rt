@@ -75,7 +75,7 @@ pub fn row_of(x: Task) -> u8
 }
 
 // ---- waits: for what, on which object, for how many ticks at most, and what they ask
-pub fn no_wait() -> Wait
+fn no_wait() -> Wait
     ensures { λ r. ⌜ r ≡ noWait ⌝ }
 {
     Wait {

@@ -1,7 +1,7 @@
-// A service by its number, from 1 to 32 as include/gritgarland.h has them: its call, and what its fields are.
-// Each function is a definition of specs/Calls, for every value; it rests on model alone.
+// A service by its number, from 1 to 32 as include/gritgarland.h has them: the call that it makes.
+// The function is a definition of specs/Calls, for every value; it rests on model alone.
 ghost use mathlib.Core.Path.{_≡_};
-ghost use Rattle.services.specs.Calls.{asked, takes, isTimeoutAt};
+ghost use Rattle.services.specs.Calls.{asked};
 use model::Call;
 use model::Event;
 
@@ -103,65 +103,5 @@ pub fn call_of(number: u32, a: u32, b: u32, c: u32, d: u32) -> Asked
             },
         }),
         _ => Asked::Nothing,
-    }
-}
-
-// How many numbers each service takes, by its number.
-const TAKES: [u8; 33] = [
-    0,
-    3,
-    1,
-    1,
-    1,
-    0,
-    1,
-    1,
-    1,
-    1,
-    1,
-    1,
-    1,
-    1,
-    2,
-    2,
-    0,
-    3,
-    1,
-    1,
-    1,
-    2,
-    1,
-    1,
-    3,
-    1,
-    2,
-    2,
-    2,
-    2,
-    4,
-    3,
-    3,
-];
-
-// How many numbers a service takes.
-pub fn takes(number: u32) -> u8
-    ensures { λ r. ⌜ r ≡ takes number ⌝ }
-{
-    if number < 33 {
-        let i = number as usize;
-        return TAKES[i];
-    }
-    0
-}
-
-// Whether the number at a place, from 0 on, is a timeout: of the sleep, the acquire and the flag wait it is the last.
-pub fn is_timeout_at(number: u32, place: u32) -> bool
-    ensures { λ r. ⌜ r ≡ isTimeoutAt number place ⌝ }
-{
-    match number {
-        9 => place == 0,
-        21 => place == 1,
-        30 => place == 3,
-        _ => false,
     }
 }

@@ -14,7 +14,7 @@ fn are_kept(attributes: u32) -> bool
     (attributes == 0) | ((attributes == 1) | ((attributes == 2) | (attributes == 4)))
 }
 
-pub fn flag_sound(attributes: u32, bits: u32, first: u8, second: u8) -> bool
+pub(crate) fn flag_sound(attributes: u32, bits: u32, first: u8, second: u8) -> bool
     ensures { λ r. ⌜ r ≡ isFlagSound attributes bits first second ⌝ }
 {
     let kept = are_kept(attributes);
@@ -22,7 +22,7 @@ pub fn flag_sound(attributes: u32, bits: u32, first: u8, second: u8) -> bool
     kept & (((attributes != 0) | ((bits == 0) & (first == 0))) & (!single | (second == 0)))
 }
 
-pub fn is_unmet(w: Wait, bits: u32) -> bool
+pub(crate) fn is_unmet(w: Wait, bits: u32) -> bool
     ensures { λ r. ⌜ r ≡ isUnmet w bits ⌝ }
 {
     let kind = w.kind;
@@ -31,7 +31,7 @@ pub fn is_unmet(w: Wait, bits: u32) -> bool
 }
 
 // The task that stands second in a row of the table of waits, or 0.
-pub fn second_waiter(waits: &[u8; 504], l: usize) -> u8
+pub(crate) fn second_waiter(waits: &[u8; 504], l: usize) -> u8
     ensures { λ r. ⌜ r ≡ secondOf (queuesOf 21 (now (waits .entry))) l ⌝ }
 {
     // as a slice, which tells the prover how long it is

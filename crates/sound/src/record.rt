@@ -99,7 +99,7 @@ fn is_ask_sound(w: Wait) -> bool
     (pattern == 0) & (mode == 0)
 }
 
-pub fn task_sound(x: Task) -> bool
+pub(crate) fn task_sound(x: Task) -> bool
     ensures { λ r. ⌜ r ≡ isTaskSound x ⌝ }
 {
     let base = x.base;
@@ -131,20 +131,20 @@ pub fn task_sound(x: Task) -> bool
         & ask_sound
 }
 
-pub fn rate_sound(slice: u32, charge: u32) -> bool
+pub(crate) fn rate_sound(slice: u32, charge: u32) -> bool
     ensures { λ r. ⌜ r ≡ isRateSound slice charge ⌝ }
 {
     (slice <= 1000) & ((charge < slice) | ((slice == 0) & (charge == 0)))
 }
 
-pub fn count_sound(count: u32, maximum: u32, first: u8) -> bool
+pub(crate) fn count_sound(count: u32, maximum: u32, first: u8) -> bool
     ensures { λ r. ⌜ r ≡ isCountSound count maximum first ⌝ }
 {
     (count <= maximum) & ((maximum <= 65535) & ((first == 0) | ((count == 0) & (maximum != 0))))
 }
 
 // Place 0 of every table is unused.
-pub fn is_origin(
+pub(crate) fn is_origin(
     x: Task,
     slice: u32,
     charge: u32,
