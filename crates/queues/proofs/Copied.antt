@@ -1,20 +1,19 @@
 -- Queues that go into the table and come out of it: one turn of each loop, and a row copied out.
 -- It rests on the bridge, and on the library's laws of stores.
 use mathlib.Core.Path.{_≡_, refl, sym, ap, _∙_}
-use mathlib.Core.List.{List, [], _∷_, _++_, append-assoc}
-use Prim.Native.Nat.{ℕ, zero, suc, _+_, _*_, _-_, _≤_, _<_}
+use mathlib.Core.List.{List, [], _∷_, append-assoc}
+use Prim.Native.Nat.{ℕ, zero, suc, _+_, _*_, _≤_, _<_}
 use native.Mathlib.Numerals.{add-one}
-use native.Mathlib.Nat.{add-zero, add-suc}
+use native.Mathlib.Nat.{add-suc}
 use native.Mathlib.Omega.{arith}
-use lib.ListN.{getD, set, length, take, drop, replicate, length-set, drop-of-length-le, List·getD-eq-default}
+use lib.ListN.{getD, set, length, take, drop, drop-of-length-le}
 use lib.Seq.{take-suc, take-suc-set, take-all, drop-cons, drop-drop, sets, sets-eq}
-use mathlib.Core.Logic.{⊎-elim}
 use Rattle.model.specs.declared.Queue.{Queue}
-use Rattle.model.specs.Row.{asQueue, noQueue, row, withRow}
-use Rattle.laws.proofs.Number.{below?}
+use Rattle.model.specs.Row.{asQueue, noQueue, withRow}
 use Rattle.rows.specs.Flat.{rowIn, withRowIn}
-use Rattle.queues.specs.Queues.{queuesOf, places}
-use Rattle.queues.proofs.Bridge.{length-queues, queue-at, row-queue, row-past, with-queue}
+use Rattle.rows.proofs.Flat.{length-rowIn, at-rowIn}
+use Rattle.queues.specs.Queues.{queuesOf}
+use Rattle.queues.proofs.Bridge.{length-queues, with-queue}
 
 -- ---- one queue goes in
 pub put-on : (ns xs z : List ℕ) (a i : ℕ) → i < length xs → sets ns (a + i) (drop i xs) ≡ z → sets (set ns (a + i) (getD xs i 0)) (a + (i + 1)) (drop (i + 1) xs) ≡ z
@@ -31,44 +30,16 @@ sets-row n ls l q w h e =
     rw (sets-eq q ls (l * 24) m, append-assoc (take (l * 24) ls) q (drop (l * 24 + length q) ls), e, drop-drop 24 (l * 24) ls)
 
 -- ---- one queue comes out
-pub length-places : (n a : ℕ) (ls : List ℕ) → length (places n a ls) ≡ n
-unfolding places
-length-places zero a ls = refl
-length-places (suc n) a ls = ap suc (length-places n (suc a) ls)
+row-long : (ls : List ℕ) (l : ℕ) → l * 24 + 24 ≤ length ls → length (rowIn ls l) ≡ 24
+row-long ls l w = omega (arith, length-rowIn ls l)
 
-places-at : (n a i : ℕ) (ls : List ℕ) → i < n → getD (places n a ls) i 0 ≡ getD ls (a + i) 0
-unfolding places
-places-at zero a i ls h = absurd (omega arith)
-places-at (suc n) a zero ls h = rw (add-zero a)
-places-at (suc n) a (suc i) ls h = places-at n (suc a) i ls (omega arith) ∙ ap (λ (k : ℕ). getD ls k 0) (omega arith)
+pub copy-on : (r ls : List ℕ) (l i : ℕ) → length r ≡ 24 → l * 24 + 24 ≤ length ls → i < 24 → take i r ≡ take i (rowIn ls l)
+    → take (i + 1) (set r i (getD ls (l * 24 + i) 0)) ≡ take (i + 1) (rowIn ls l)
+copy-on r ls l i e w h g =
+    rw (add-one i, take-suc-set r i (getD ls (l * 24 + i) 0) (omega arith), take-suc (rowIn ls l) i 0 (omega (arith, row-long ls l w)), at-rowIn ls l i h, g)
 
-pub copy-on : (r ls : List ℕ) (a i v : ℕ) → length r ≡ 24 → i < 24 → v ≡ getD ls (a + i) 0 → take i r ≡ take i (places 24 a ls) → take (i + 1) (set r i v) ≡ take (i + 1) (places 24 a ls)
-copy-on r ls a i v e h f g =
-    rw (add-one i, take-suc-set r i v (omega arith), take-suc (places 24 a ls) i 0 (omega (arith, length-places 24 a ls)), places-at 24 a i ls h, f, g)
-
-pub copy-end : (r ls : List ℕ) (a i : ℕ) → length r ≡ 24 → 24 ≤ i → take i r ≡ take i (places 24 a ls) → asQueue r ≡ asQueue (places 24 a ls)
-copy-end r ls a i e h g = ap asQueue (sym (take-all i r (omega arith)) ∙ g ∙ take-all i (places 24 a ls) (omega (arith, length-places 24 a ls)))
-
-places-part : (n a : ℕ) (ls : List ℕ) → a + n ≤ length ls → places n a ls ≡ take n (drop a ls)
-unfolding places
-places-part zero a ls h = refl
-places-part (suc n) a ls h = ap (λ (r : List ℕ). getD ls a 0 ∷ r) (places-part n (suc a) ls (omega arith)) ∙ rw (drop-cons ls a 0 (omega arith))
-
-places-past : (n a : ℕ) (ls : List ℕ) → length ls ≤ a → places n a ls ≡ replicate n 0
-unfolding places
-places-past zero a ls h = refl
-places-past (suc n) a ls h = rw (List·getD-eq-default ls 0 h, places-past n (suc a) ls (omega arith))
-
-pub places-row : (n : ℕ) (ls : List ℕ) (l : ℕ) → length ls ≡ n * 24 → l < n → places 24 (l * 24) ls ≡ rowIn ls l
-unfolding rowIn
-places-row n ls l w h = places-part 24 (l * 24) ls (omega (arith, w))
-
--- a row copied out is the queue's, past the table's end too
-pub copied-row : (n : ℕ) (ls : List ℕ) (l : ℕ) → length ls ≡ n * 24 → places 24 (l * 24) ls ≡ row (queuesOf n ls) l
-copied-row n ls l w = ⊎-elim
-    (λ (h : l < n). places-row n ls l w h ∙ sym (row-queue n l ls h))
-    (λ (h : n ≤ l). places-past 24 (l * 24) ls (omega (arith, w)) ∙ sym (row-past (queuesOf n ls) l (omega (arith, length-queues n 0 ls))))
-    (below? l n)
+pub copy-end : (r ls : List ℕ) (l i : ℕ) → length r ≡ 24 → l * 24 + 24 ≤ length ls → 24 ≤ i → take i r ≡ take i (rowIn ls l) → asQueue r ≡ asQueue (rowIn ls l)
+copy-end r ls l i e w h g = ap asQueue (sym (take-all i r (omega arith)) ∙ g ∙ take-all i (rowIn ls l) (omega (arith, row-long ls l w)))
 
 -- ---- all of them
 pub fills : (r l : List Queue) (n t : ℕ) (x : Queue) → length r ≡ n → length l ≡ n → t < n → x ≡ getD l t noQueue → take t r ≡ take t l → take (t + 1) (set r t x) ≡ take (t + 1) l

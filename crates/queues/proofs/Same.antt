@@ -1,8 +1,8 @@
 -- Two flat tables that stand for the same queues are one, so a promise about the state fixes what is lent.
 -- It rests on the definitions of specs/Queues and on rows alone.
-use mathlib.Core.Path.{_≡_, refl, sym, ap, _∙_}
-use mathlib.Core.List.{List, [], _∷_, _++_}
-use Prim.Native.Nat.{ℕ, zero, suc, _+_, _*_, _≤_, _<_}
+use mathlib.Core.Path.{_≡_, sym, ap, _∙_}
+use mathlib.Core.List.{List, _++_}
+use Prim.Native.Nat.{ℕ, zero, suc, _+_, _*_}
 use native.Mathlib.Omega.{arith}
 use lib.ListN.{getD, length, take, drop, take-append-drop, drop-of-length-le}
 use lib.Seq.{drop-drop}

@@ -1,7 +1,6 @@
 -- The queues that a lent table of rows stands for.
 use mathlib.Core.List.{List, [], _∷_}
 use Prim.Native.Nat.{ℕ, zero, suc}
-use lib.ListN.{getD}
 use Rattle.model.specs.declared.Queue.{Queue}
 use Rattle.model.specs.Row.{asQueue}
 use Rattle.rows.specs.Flat.{rowIn}
@@ -13,8 +12,3 @@ queuesFrom (suc n) l ls = asQueue (rowIn ls l) ∷ queuesFrom n (suc l) ls
 
 abbrev pub queuesOf : ℕ → List ℕ → List Queue
 queuesOf n ls = queuesFrom n 0 ls
-
--- n places of a table, from place a on, with zeros for those past its end
-unfoldable pub places : ℕ → ℕ → List ℕ → List ℕ
-places zero a ls = []
-places (suc n) a ls = getD ls a 0 ∷ places n (suc a) ls

@@ -47,11 +47,14 @@ pub fn relist_waits(waits: &mut [u8; 504], f: usize, g: usize, t: u8)
     rows::relist(ls, f, g, t);
 }
 
-// A row as it stands.
+// A row as it stands; a number that names none has zeros.
 pub fn waiters(waits: &[u8; 504], l: u8) -> [u8; 24]
     ensures { λ r. ⌜ r ≡ row (queuesOf 21 (now (waits .entry))) l ⌝ }
 {
     let ls: &[u8] = waits;
+    if 20 < l {
+        return [0u8; 24];
+    }
     let q = queue_at(ls, l);
     q.places
 }

@@ -1,56 +1,39 @@
 // Queues by value, as a caller holds them, and the flat table of rows that is lent inside: one goes into the other and comes out.
 // Each function is a definition of specs/Queues, for every value; it rests on model and on the rows of rows.
 ghost use mathlib.Core.Path.{_≡_};
-ghost use Prim.Native.Nat.{_*_};
-ghost use lib.ListN.{getD, set, length};
+ghost use Prim.Native.Nat.{_+_, _*_, _≤_};
+ghost use lib.ListN.{length};
 ghost use lib.Seq.{sets};
 ghost use Rattle.model.specs.Row.{asQueue};
-ghost use Rattle.queues.specs.Queues.{queuesOf, places};
+ghost use Rattle.queues.specs.Queues.{queuesOf};
+ghost use Rattle.rows.specs.Flat.{rowIn};
 use model::Queue;
 
 pub mod lent;
 
-// ---- one place; past the end it reads as 0, and a store changes nothing
-fn byte_at(ns: &[u8], i: usize) -> u8
-    ensures { λ r. ⌜ r ≡ getD (now (ns .entry)) i 0 ⌝ }
-{
-    if i < ns.len() {
-        return ns[i];
-    }
-    0
-}
-
-fn put_byte(ns: &mut [u8], i: usize, v: u8)
-    ensures { λ r. ⌜ now (ns .exit) ≡ set (now (ns .entry)) i v ⌝ }
-{
-    if ns.len() <= i {
-        return;
-    }
-    ns[i] = v;
-}
-
-// ---- one queue. Its length is said too, since a caller can't see it.
+// ---- one queue of a table that has it. Its length is said too, since a caller can't see it.
 fn put_queue(flat: &mut [u8], l: u8, q: Queue)
+    requires { ⌜ l * 24 + 24 ≤ length (now flat) ⌝ }
     ensures { λ r. ⌜ (now (flat .exit) ≡ sets (now (flat .entry)) (l * 24) (q .places)) × (length (q .places) ≡ 24) ⌝ }
 {
     let places = q.places;
     let a = (l as usize) * 24;
     let mut i: usize = 0;
     while i < 24 {
-        put_byte(flat, a + i, places[i]);
+        flat[a + i] = places[i];
         i = i + 1;
     }
 }
 
-// Row l as it stands, with zeros for what is past the table.
 pub(crate) fn queue_at(flat: &[u8], l: u8) -> Queue
-    ensures { λ r. ⌜ r ≡ asQueue (places 24 (l * 24) (now (flat .entry))) ⌝ }
+    requires { ⌜ l * 24 + 24 ≤ length (now flat) ⌝ }
+    ensures { λ r. ⌜ r ≡ asQueue (rowIn (now (flat .entry)) l) ⌝ }
 {
     let a = (l as usize) * 24;
     let mut q = [0u8; 24];
     let mut i: usize = 0;
     while i < 24 {
-        q[i] = byte_at(flat, a + i);
+        q[i] = flat[a + i];
         i = i + 1;
     }
     Queue { places: q }

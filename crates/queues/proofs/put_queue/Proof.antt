@@ -1,12 +1,12 @@
-use Prim.Native.Nat.{_≤_, _+_, _*_, _-_}
-use mathlib.Core.Path.{_≡_, refl, sym, _∙_}
-use borrow.Author.Needs.{needs}
+-- `queues::put_queue` meets its contract. The invariant: what is left to store makes of the table what the whole queue does.
+-- Rests on Copied.
+use mathlib.Core.Path.{_≡_, refl}
+use Prim.Native.Nat.{_≤_, _+_, _-_}
 use native.Mathlib.Nat.{add-zero}
 use native.Mathlib.Omega.{arith}
-use lib.ListN.{length, length-set, drop, take}
+use lib.ListN.{length, length-set, drop}
 use lib.Seq.{sets}
-use Rattle.queues.specs.Queues.{places, queuesOf}
-use Rattle.queues.proofs.Bridge as bridge
+use borrow.Author.Needs.{needs}
 use Rattle.queues.proofs.Copied as law
 use Rattle.queues.proofs.put_queue.Statement.{statement}
 use Rattle.queues.proofs.put_queue.Tie as tie
@@ -17,35 +17,17 @@ Inv-loop flat₀ l places a i₀ flat i = (i ≤ 24) × (length places ≡ 24) �
 abbrev μ-loop : tie.MeasureT-loop
 μ-loop flat₀ l places a i₀ flat i = 24 - i
 
-mul-a : tie.Need-mul-a Inv-loop μ-loop
-mul-a c = search needs
-
 loop-holds : tie.Need-loop-holds Inv-loop μ-loop
 loop-holds c = (omega arith, search needs, refl, rw add-zero)
 
-add-put-byte : tie.Need-add-put-byte Inv-loop μ-loop
-add-put-byte c = search needs
-
-array-read-put-byte : tie.Need-array-read-put-byte Inv-loop μ-loop
-array-read-put-byte c = search needs
-
-put-byte-requires : tie.Need-put-byte-requires Inv-loop μ-loop
-put-byte-requires c κs = search needs
-
-add-i : tie.Need-add-i Inv-loop μ-loop
-add-i c = search needs
-
-loop-less : tie.Need-loop-less Inv-loop μ-loop
-loop-less c = search needs
-
 loop-again : tie.Need-loop-again Inv-loop μ-loop
-loop-again c = let l = c .before .before .before .before .before .loop in (omega arith, l .inv .1, c .before .flat .given ∙ l .inv .2, rw (c .before .before .put-byte .ensures) (law.put-on (l .flat) _ _ _ (l .i) (omega (arith, l .inv .1)) (l .inv .3)))
+loop-again c = let l = c .before .loop in (omega arith, l .inv .1, simp length-set (l .inv .2), law.put-on (l .flat) _ _ _ (l .i) (omega (arith, l .inv .1)) (l .inv .3))
 
 same-length : tie.Need-same-length Inv-loop μ-loop
 same-length c = c .before .loop .inv .2
 
 returns : tie.Need-returns Inv-loop μ-loop
-returns c = (law.put-end (c .before .loop .flat) _ _ _ (c .before .loop .i) (omega (arith, c .before .loop .inv .1)) (c .before .loop .inv .3), c .before .loop .inv .1)
+returns c = let l = c .before .loop in (law.put-end (l .flat) _ _ _ (l .i) (omega (arith, l .inv .1)) (l .inv .3), l .inv .1)
 
 pub put-queue-spec : {M : Type 1} → statement M
 put-queue-spec =
@@ -53,13 +35,13 @@ put-queue-spec =
     (tie.spec
     Inv-loop
     μ-loop
-    mul-a
+    (λ c. search needs)
     loop-holds
-    add-put-byte
-    array-read-put-byte
-    put-byte-requires
-    add-i
-    loop-less
+    (λ c. search needs)
+    (λ c. search needs)
+    (λ c. search needs)
+    (λ c. search needs)
+    (λ c. omega arith)
     loop-again
     same-length
     returns)

@@ -5,11 +5,8 @@ use Rattle.queues.proofs.Bridge as bridge
 use Rattle.queues.proofs.lent.first_waiter.Statement.{statement}
 use Rattle.queues.proofs.lent.first_waiter.Tie as tie
 
-first-of-requires : tie.Need-first-of-requires
-first-of-requires c κs = search needs
-
 returns : tie.Need-returns
 returns c = c .first-of .ensures ∙ bridge.first-queue 21 _ (search needs) _
 
 pub first-waiter-spec : {M : Type 1} → statement M
-first-waiter-spec = tie.close (tie.spec first-of-requires returns)
+first-waiter-spec = tie.close (tie.spec (λ c κs. search needs) returns)

@@ -6,11 +6,8 @@ use Rattle.queues.proofs.Bridge as bridge
 use Rattle.queues.proofs.lent.relist_levels.Statement.{statement}
 use Rattle.queues.proofs.lent.relist_levels.Tie as tie
 
-relist-requires : tie.Need-relist-requires
-relist-requires c κs = search needs
-
 returns : tie.Need-returns
 returns c = ap (queuesOf 31) (c .relist .ensures) ∙ bridge.relisted-queue 31 _ (search needs) _ _ _
 
 pub relist-levels-spec : {M : Type 1} → statement M
-relist-levels-spec = tie.close (tie.spec relist-requires returns)
+relist-levels-spec = tie.close (tie.spec (λ c κs. search needs) returns)

@@ -6,11 +6,8 @@ use Rattle.queues.proofs.Bridge as bridge
 use Rattle.queues.proofs.lent.relist_waits.Statement.{statement}
 use Rattle.queues.proofs.lent.relist_waits.Tie as tie
 
-relist-requires : tie.Need-relist-requires
-relist-requires c κs = search needs
-
 returns : tie.Need-returns
 returns c = ap (queuesOf 21) (c .relist .ensures) ∙ bridge.relisted-queue 21 _ (search needs) _ _ _
 
 pub relist-waits-spec : {M : Type 1} → statement M
-relist-waits-spec = tie.close (tie.spec relist-requires returns)
+relist-waits-spec = tie.close (tie.spec (λ c κs. search needs) returns)

@@ -6,11 +6,8 @@ use Rattle.queues.proofs.Bridge as bridge
 use Rattle.queues.proofs.lent.turn_level.Statement.{statement}
 use Rattle.queues.proofs.lent.turn_level.Tie as tie
 
-turn-row-requires : tie.Need-turn-row-requires
-turn-row-requires c κs = search needs
-
 returns : tie.Need-returns
 returns c = ap (queuesOf 31) (c .turn-row .ensures) ∙ bridge.turned-queue 31 _ (search needs) _
 
 pub turn-level-spec : {M : Type 1} → statement M
-turn-level-spec = tie.close (tie.spec turn-row-requires returns)
+turn-level-spec = tie.close (tie.spec (λ c κs. search needs) returns)
