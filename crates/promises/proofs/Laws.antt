@@ -144,8 +144,8 @@ module _ {ℓ ℓ₂ ℓ₃ ℓ₄ ℓ₅ : Lifetime} {κ κ₂ κ₃ κ₄ κ�
       ))))
 
   -- the levels and the numbers, where the others are only read
-  pub charged : {l m n o : List ℕ} {d : State} {V V₂ V₃ V₄ V₅ V₆ : Type 2} {U : Type 0} {u : U} (b v q : List ℕ)
-      → V × (V₂ × (Lent u8 744 ℓ₃ κ₃ x₃ l × (V₃ × (Lent u32 107 ℓ₅ κ₅ x₅ n × X)))) → V₄ × (V₅ × (Lent u8 744 ℓ₃ κ₃ x₃ m × (V₆ × (Lent u32 107 ℓ₅ κ₅ x₅ o × Y))))
+  pub charged : {l m n o : List ℕ} {d : State} {G G₂ G₃ G₄ G₅ G₆ : Type 2} {U : Type 0} {u : U} (b v q : List ℕ)
+      → G × (G₂ × (Lent u8 744 ℓ₃ κ₃ x₃ l × (G₃ × (Lent u32 107 ℓ₅ κ₅ x₅ n × X)))) → G₄ × (G₅ × (Lent u8 744 ℓ₃ κ₃ x₃ m × (G₆ × (Lent u32 107 ℓ₅ κ₅ x₅ o × Y))))
       → stateIn b v l q n ≡ d → stateIn b v m q o ≡ d
       → _≡_ {A = Unit {0} × (Unit {0} × (Unit {0} × (List ℕ × (Unit {0} × (List ℕ × U)))))} (tt, (tt, (tt, (l, (tt, (n, u)))))) (tt, (tt, (tt, (m, (tt, (o, u))))))
   charged {l} {m} {n} {o} {u = u} b v q i j e f =
