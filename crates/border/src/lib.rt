@@ -1,14 +1,14 @@
-// The border to other languages: which context, service and code a plain number stands for, and a call by numbers alone.
-// A number that names nothing is WRONG_PARAM; a number that the service does not take is not looked at. Rests on the kernel.
+// The border to other languages: which context and code a plain number stands for, and a call by numbers alone.
+// A number that names nothing is WRONG_PARAM; a number that the service does not take is not looked at. Rests on services and the kernel.
 ghost use mathlib.Core.Path.{_≡_};
 ghost use Rattle.model.specs.Code.{number};
-ghost use Rattle.border.specs.Border.{contextOf, eventOf, serviceOf, answered, unknown, replyOf, reply};
+ghost use Rattle.border.specs.Border.{contextOf, answered, unknown, replyOf, reply};
 use model::Answer;
-use model::Call;
 use model::Code;
 use model::Context;
-use model::Event;
 use model::State;
+use services::calls::Asked;
+use services::calls::call_of;
 
 // A call's answer in plain numbers: the paper's code, the task that then runs, the bits that a flag wait or poll got at once, the next state.
 #[repr(C)]
@@ -24,11 +24,6 @@ pub enum From {
     Nowhere,
 }
 
-pub enum Asked {
-    Named(Call),
-    Nothing,
-}
-
 pub fn context_of(n: u32) -> From
     ensures { λ r. ⌜ r ≡ contextOf n ⌝ }
 {
@@ -36,109 +31,6 @@ pub fn context_of(n: u32) -> From
         0 => From::Known(Context::T),
         1 => From::Known(Context::I),
         _ => From::Nowhere,
-    }
-}
-
-// The services of event flags.
-fn event_of(n: u32, a: u32, b: u32, c: u32, d: u32) -> Asked
-    ensures { λ r. ⌜ r ≡ eventOf n a b c d ⌝ }
-{
-    match n {
-        24 => Asked::Named(Call::Event {
-            flag: a,
-            service: Event::Create {
-                attributes: b,
-                bits: c,
-            },
-        }),
-        25 => Asked::Named(Call::Event {
-            flag: a,
-            service: Event::Delete,
-        }),
-        26 => Asked::Named(Call::Event {
-            flag: a,
-            service: Event::Set { bits: b },
-        }),
-        27 => Asked::Named(Call::Event {
-            flag: a,
-            service: Event::Iset { bits: b },
-        }),
-        28 => Asked::Named(Call::Event {
-            flag: a,
-            service: Event::Clear { bits: b },
-        }),
-        29 => Asked::Named(Call::Event {
-            flag: a,
-            service: Event::Iclear { bits: b },
-        }),
-        30 => Asked::Named(Call::Event {
-            flag: a,
-            service: Event::Wait {
-                pattern: b,
-                mode: c,
-                timeout: d,
-            },
-        }),
-        31 => Asked::Named(Call::Event {
-            flag: a,
-            service: Event::WaitPolling {
-                pattern: b,
-                mode: c,
-            },
-        }),
-        32 => Asked::Named(Call::Event {
-            flag: a,
-            service: Event::Iwait {
-                pattern: b,
-                mode: c,
-            },
-        }),
-        _ => Asked::Nothing,
-    }
-}
-
-pub fn service_of(n: u32, a: u32, b: u32, c: u32, d: u32) -> Asked
-    ensures { λ r. ⌜ r ≡ serviceOf n a b c d ⌝ }
-{
-    match n {
-        1 => Asked::Named(Call::TaskCreate {
-            task: a,
-            priority: b,
-            option: c,
-        }),
-        2 => Asked::Named(Call::TaskDelete { task: a }),
-        3 => Asked::Named(Call::TaskActivate { task: a }),
-        4 => Asked::Named(Call::TaskIactivate { task: a }),
-        5 => Asked::Named(Call::TaskExit),
-        6 => Asked::Named(Call::TaskTerminate { task: a }),
-        7 => Asked::Named(Call::TaskSuspend { task: a }),
-        8 => Asked::Named(Call::TaskResume { task: a }),
-        9 => Asked::Named(Call::TaskSleep { timeout: a }),
-        10 => Asked::Named(Call::TaskWakeup { task: a }),
-        11 => Asked::Named(Call::TaskIwakeup { task: a }),
-        12 => Asked::Named(Call::TaskReleaseWait { task: a }),
-        13 => Asked::Named(Call::TaskIreleaseWait { task: a }),
-        14 => Asked::Named(Call::TaskChangePriority {
-            task: a,
-            priority: b,
-        }),
-        15 => Asked::Named(Call::SysTsliceTicks { level: a, slice: b }),
-        16 => Asked::Named(Call::TickIntProcessing),
-        17 => Asked::Named(Call::SemCreate {
-            semaphore: a,
-            start: b,
-            maximum: c,
-        }),
-        18 => Asked::Named(Call::SemDelete { semaphore: a }),
-        19 => Asked::Named(Call::SemSignal { semaphore: a }),
-        20 => Asked::Named(Call::SemIsignal { semaphore: a }),
-        21 => Asked::Named(Call::SemAcquire {
-            semaphore: a,
-            timeout: b,
-        }),
-        22 => Asked::Named(Call::SemPolling { semaphore: a }),
-        23 => Asked::Named(Call::SemIpolling { semaphore: a }),
-        _ => event_of(n, a, b, c, d),
     }
 }
 
@@ -180,10 +72,9 @@ fn unknown(s: State) -> Answer
 {
     let sound = sound::is_sound(s);
     if sound {
-        let levels = s.levels;
         return Answer {
             code: Code::WrongParam,
-            running: rows::best(&levels),
+            running: kernel::running(s),
             value: 0,
             state: s,
         };
@@ -211,5 +102,5 @@ fn answered(s: State, from: From, asked: Asked) -> Answer
 pub fn call_by_number(s: State, context: u32, service: u32, a: u32, b: u32, c: u32, d: u32) -> Reply
     ensures { λ r. ⌜ r ≡ reply s context service a b c d ⌝ }
 {
-    reply_of(answered(s, context_of(context), service_of(service, a, b, c, d)))
+    reply_of(answered(s, context_of(context), call_of(service, a, b, c, d)))
 }

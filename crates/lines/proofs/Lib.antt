@@ -1,5 +1,3 @@
 pub mod Within
-pub mod Table
-pub mod Right
 pub mod Vectors
 pub mod Long

@@ -4,15 +4,17 @@ use Prim.Native.Nat.{ℕ, _+_, _*_, _≤_}
 use mathlib.Core.Bool.{Bool, true, false, cond}
 use mathlib.Core.List.{List, [], _∷_}
 use native.Mathlib.Omega.{arith}
-use lib.Dec.{T, ltb, leb, eqb, leb→le}
+use lib.Dec.{T as So, ltb, leb, eqb, leb→le}
 use lib.ListN.{length, getD, drop}
 use Rattle.text.specs.declared.number.Number.{Number}
 use Rattle.text.specs.declared.number.Number.the-variants.{Digits, NoNumber}
 use Rattle.text.specs.Bytes.{bytes, begins}
 use Rattle.text.proofs.Reading.{cond-by}
 use Rattle.model.specs.declared.Context.{Context}
-use Rattle.lines.specs.declared.names.Name.{Name}
-use Rattle.lines.specs.declared.names.Name.the-variants.{Known, Unknown}
+use Rattle.model.specs.Services.{Service, tasks, system, semaphores, events, services, service}
+use Rattle.services.specs.declared.names.Name.{Name}
+use Rattle.services.specs.declared.names.Name.the-variants.{Known, Unknown}
+use Rattle.services.specs.Names.{label, nameIn, nameOf}
 use Rattle.lines.specs.declared.fields.End.{End}
 use Rattle.lines.specs.declared.fields.End.the-variants.{Closes, NoEnd}
 use Rattle.lines.specs.declared.fields.Tail.{Tail}
@@ -25,10 +27,10 @@ use Rattle.lines.specs.declared.line.Line.{Line}
 use Rattle.lines.specs.declared.line.Line.the-variants.{Reads, Unreadable}
 use Rattle.lines.specs.declared.line.Header.{Header}
 use Rattle.lines.specs.declared.line.Header.the-variants.{Ends, NoHeader}
-use Rattle.lines.specs.Services.{Service, tasks, system, semaphores, events, services, label, callOf, nameIn, nameOf}
 use Rattle.lines.specs.Fields.{fieldOf, numberThen, commaField, endOf, lastField, tailField, narrowTail, wideTail, tailOf, fieldThen, tailThen, fieldsOf}
 use Rattle.lines.specs.Lines.{letterOf, letterThen, nameThen, fieldsThen, lineOf, headerThen, headed, headerOf}
-use Rattle.lines.proofs.Table.{long, both-left, both-right}
+use Rattle.services.proofs.Numbers.{both-left, both-right}
+use Rattle.services.proofs.Keys.{long}
 
 -- each answer's length is at least that
 abbrev pub NameHas : Name → Type 0
@@ -59,16 +61,16 @@ abbrev pub HeaderHas : Header → Type 0
 HeaderHas (Ends wide n) = 17 + 2 * extra wide ≤ n
 HeaderHas NoHeader = Unit
 
-name-among : (xs : List Service) → T (long xs) → (k : ℕ) (s : List ℕ) → NameHas (nameIn xs k s)
+name-among : (xs : List Service) → So (long xs) → (k : ℕ) (s : List ℕ) → NameHas (nameIn xs k s)
 unfolding nameIn long
 name-among [] t k s = tt
 name-among (x ∷ xs) t k s =
-    cond-by NameHas (begins s (label x)) (Known k (x .takes) (length (label x))) (nameIn xs (k + 1) s)
+    cond-by NameHas (begins s (label x)) (Known k (length (x .fields)) (length (label x))) (nameIn xs (k + 1) s)
     (λ e. leb→le 13 (length (label x)) (both-left (leb 13 (length (label x))) (long xs) t)) (name-among xs (both-right (leb 13 (length (label x))) (long xs) t) (k + 1) s)
 
 pub name-has : (s : List ℕ) → NameHas (nameOf s)
 unfolding nameOf services tasks system semaphores events long label
-name-has s = name-among services tt 0 s
+name-has s = name-among services tt 1 s
 
 pub comma-has : (used : Bool) (s : List ℕ) → NumberHas (commaField used s)
 unfolding commaField
@@ -117,15 +119,15 @@ pub line-has : (wide : Bool) (s : List ℕ) → LineHas wide (lineOf wide s)
 unfolding lineOf
 line-has wide s = first (letterOf s)
   where
-    third : (x : Context) (k i : ℕ) → 15 ≤ i → (t : Fields) → FieldsHas wide t → LineHas wide (fieldsThen t (λ a b c d m. Reads x (callOf k a b c d) (i + m)))
+    third : (x : Context) (k i : ℕ) → 15 ≤ i → (t : Fields) → FieldsHas wide t → LineHas wide (fieldsThen t (λ a b c d m. Reads x (service k .call a b c d) (i + m)))
     third x k i h (Four a b c d m) g = omega arith
     third x k i h NoFields g = tt
 
-    second : (x : Context) (t : Name) → NameHas t → LineHas wide (nameThen t (λ k takes n. fieldsThen (fieldsOf wide takes (drop (2 + n) s)) (λ a b c d m. Reads x (callOf k a b c d) (2 + n + m))))
+    second : (x : Context) (t : Name) → NameHas t → LineHas wide (nameThen t (λ k takes n. fieldsThen (fieldsOf wide takes (drop (2 + n) s)) (λ a b c d m. Reads x (service k .call a b c d) (2 + n + m))))
     second x (Known k takes n) g = third x k (2 + n) (omega arith) (fieldsOf wide takes (drop (2 + n) s)) (fields-has wide takes (drop (2 + n) s))
     second x Unknown g = tt
 
-    first : (t : Letter) → LineHas wide (letterThen t (λ x. nameThen (nameOf (drop 2 s)) (λ k takes n. fieldsThen (fieldsOf wide takes (drop (2 + n) s)) (λ a b c d m. Reads x (callOf k a b c d) (2 + n + m)))))
+    first : (t : Letter) → LineHas wide (letterThen t (λ x. nameThen (nameOf (drop 2 s)) (λ k takes n. fieldsThen (fieldsOf wide takes (drop (2 + n) s)) (λ a b c d m. Reads x (service k .call a b c d) (2 + n + m)))))
     first (Is x) = second x (nameOf (drop 2 s)) (name-has (drop 2 s))
     first NoLetter = tt
 

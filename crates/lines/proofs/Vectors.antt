@@ -9,11 +9,12 @@ use Rattle.text.specs.Number.{isDigit, digits, valueAfter, ended, numberOf}
 use Rattle.model.specs.declared.Context.the-variants.{T, I}
 use Rattle.model.specs.declared.Call.the-variants.{TaskCreate, TaskExit, TaskSleep, TickIntProcessing, SemCreate, SemSignal, SemIsignal, SemAcquire, SemPolling, Event}
 use Rattle.model.specs.declared.Event.the-variants.{Create, Wait, WaitPolling, Iwait}
+use Rattle.model.specs.Services.{tasks, system, semaphores, events, services, service}
+use Rattle.services.specs.Names.{label, nameIn, nameOf}
 use Rattle.lines.specs.declared.line.Line.{Line}
 use Rattle.lines.specs.declared.line.Line.the-variants.{Reads, Unreadable}
 use Rattle.lines.specs.declared.line.Header.{Header}
 use Rattle.lines.specs.declared.line.Header.the-variants.{Ends, NoHeader}
-use Rattle.lines.specs.Services.{tasks, system, semaphores, events, services, service, callOf, label, nameIn, nameOf}
 use Rattle.lines.specs.Fields.{fieldOf, commaField, endOf, lastField, narrowTail, wideTail, tailOf, fieldsOf}
 use Rattle.lines.specs.Lines.{letterOf, lineOf, headed, headerOf}
 
@@ -95,11 +96,11 @@ wideRows =
     ∷ []
 
 pub lines-read : given false rows ≡ wanted rows
-unfolding rows lineOf letterOf nameOf nameIn label services tasks system semaphores events service callOf fieldsOf tailOf narrowTail fieldOf commaField lastField endOf numberOf ended valueAfter digits isDigit begins
+unfolding rows lineOf letterOf nameOf nameIn label services tasks system semaphores events service fieldsOf tailOf narrowTail fieldOf commaField lastField endOf numberOf ended valueAfter digits isDigit begins
 lines-read = refl
 
 pub wide-lines-read : given true wideRows ≡ wanted wideRows
-unfolding wideRows lineOf letterOf nameOf nameIn label services tasks system semaphores events service callOf fieldsOf tailOf wideTail fieldOf commaField lastField endOf numberOf ended valueAfter digits isDigit begins
+unfolding wideRows lineOf letterOf nameOf nameIn label services tasks system semaphores events service fieldsOf tailOf wideTail fieldOf commaField lastField endOf numberOf ended valueAfter digits isDigit begins
 wide-lines-read = refl
 
 abbrev pub headers : List Header

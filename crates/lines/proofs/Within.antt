@@ -16,8 +16,10 @@ use Rattle.text.proofs.Begins.{begins-in}
 use Rattle.text.proofs.Reading.{NumberIn, cond-by, number-in}
 use Rattle.model.specs.declared.Context.{Context}
 use Rattle.model.specs.declared.Context.the-variants.{T, I}
-use Rattle.lines.specs.declared.names.Name.{Name}
-use Rattle.lines.specs.declared.names.Name.the-variants.{Known, Unknown}
+use Rattle.model.specs.Services.{Service, services, service}
+use Rattle.services.specs.declared.names.Name.{Name}
+use Rattle.services.specs.declared.names.Name.the-variants.{Known, Unknown}
+use Rattle.services.specs.Names.{label, nameIn, nameOf}
 use Rattle.lines.specs.declared.fields.End.{End}
 use Rattle.lines.specs.declared.fields.End.the-variants.{Closes, NoEnd}
 use Rattle.lines.specs.declared.fields.Tail.{Tail}
@@ -30,13 +32,8 @@ use Rattle.lines.specs.declared.line.Line.{Line}
 use Rattle.lines.specs.declared.line.Line.the-variants.{Reads, Unreadable}
 use Rattle.lines.specs.declared.line.Header.{Header}
 use Rattle.lines.specs.declared.line.Header.the-variants.{Ends, NoHeader}
-use Rattle.lines.specs.Services.{Service, services, label, callOf, nameIn, nameOf}
 use Rattle.lines.specs.Fields.{fieldOf, numberThen, commaField, endOf, endThen, lastField, tailField, narrowTail, wideTail, tailOf, fieldThen, tailThen, fieldsOf}
 use Rattle.lines.specs.Lines.{letterOf, letterThen, nameThen, fieldsThen, lineOf, headerThen, headed, headerOf}
-
--- what a call's result was found to be, said of what the callee ensures of it
-pub got : {A : Type 0} {r x y : A} → r ≡ x → r ≡ y → x ≡ y
-got p q = sym p ∙ q
 
 -- each answer's length is at most that
 abbrev pub EndIn : End → ℕ → Type 0
@@ -165,29 +162,29 @@ name-among : (xs : List Service) (k : ℕ) (s : List ℕ) → NameIn (nameIn xs 
 unfolding nameIn
 name-among [] k s = tt
 name-among (x ∷ xs) k s =
-    cond-by (λ (t : Name). NameIn t (length s)) (begins s (label x)) (Known k (x .takes) (length (label x))) (nameIn xs (k + 1) s)
+    cond-by (λ (t : Name). NameIn t (length s)) (begins s (label x)) (Known k (length (x .fields)) (length (label x))) (nameIn xs (k + 1) s)
     (λ e. begins-in s (label x) e) (name-among xs (k + 1) s)
 
 pub name-in : (s : List ℕ) → NameIn (nameOf s) (length s)
 unfolding nameOf
-name-in s = name-among services 0 s
+name-in s = name-among services 1 s
 
 pub line-in : (wide : Bool) (s : List ℕ) → LineIn (lineOf wide s) (length s)
 unfolding lineOf
 line-in wide s = first (letterOf s) (letter-in s)
   where
     third : (x : Context) (k i : ℕ) → 0 < i → i ≤ length s → (t : Fields) → FieldsIn t (length (drop i s))
-        → LineIn (fieldsThen t (λ a b c d m. Reads x (callOf k a b c d) (i + m))) (length s)
+        → LineIn (fieldsThen t (λ a b c d m. Reads x (service k .call a b c d) (i + m))) (length s)
     third x k i p h (Four a b c d m) g = (omega arith, after s i m h g)
     third x k i p h NoFields g = tt
 
     second : (x : Context) → 2 ≤ length s → (t : Name) → NameIn t (length (drop 2 s))
-        → LineIn (nameThen t (λ k takes n. fieldsThen (fieldsOf wide takes (drop (2 + n) s)) (λ a b c d m. Reads x (callOf k a b c d) (2 + n + m)))) (length s)
+        → LineIn (nameThen t (λ k takes n. fieldsThen (fieldsOf wide takes (drop (2 + n) s)) (λ a b c d m. Reads x (service k .call a b c d) (2 + n + m)))) (length s)
     second x h (Known k takes n) g = third x k (2 + n) (omega arith) (after s 2 n h g) (fieldsOf wide takes (drop (2 + n) s)) (fields-in wide takes (drop (2 + n) s))
     second x h Unknown g = tt
 
     first : (t : Letter) → LetterIn t (length s)
-        → LineIn (letterThen t (λ x. nameThen (nameOf (drop 2 s)) (λ k takes n. fieldsThen (fieldsOf wide takes (drop (2 + n) s)) (λ a b c d m. Reads x (callOf k a b c d) (2 + n + m))))) (length s)
+        → LineIn (letterThen t (λ x. nameThen (nameOf (drop 2 s)) (λ k takes n. fieldsThen (fieldsOf wide takes (drop (2 + n) s)) (λ a b c d m. Reads x (service k .call a b c d) (2 + n + m))))) (length s)
     first (Is x) h = second x h (nameOf (drop 2 s)) (name-in (drop 2 s))
     first NoLetter h = tt
 

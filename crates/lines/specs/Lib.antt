@@ -1,3 +1,2 @@
-pub mod Services
 pub mod Fields
 pub mod Lines

@@ -7,8 +7,10 @@ use lib.ListN.{length, drop}
 use Rattle.text.specs.Bytes.{bytes, begins}
 use Rattle.model.specs.declared.Context.{Context}
 use Rattle.model.specs.declared.Context.the-variants.{T, I}
-use Rattle.lines.specs.declared.names.Name.{Name}
-use Rattle.lines.specs.declared.names.Name.the-variants.{Known, Unknown}
+use Rattle.model.specs.Services.{service}
+use Rattle.services.specs.declared.names.Name.{Name}
+use Rattle.services.specs.declared.names.Name.the-variants.{Known, Unknown}
+use Rattle.services.specs.Names.{nameOf}
 use Rattle.lines.specs.declared.fields.End.{End}
 use Rattle.lines.specs.declared.fields.End.the-variants.{Closes, NoEnd}
 use Rattle.lines.specs.declared.fields.Fields.{Fields}
@@ -19,7 +21,6 @@ use Rattle.lines.specs.declared.line.Line.{Line}
 use Rattle.lines.specs.declared.line.Line.the-variants.{Reads, Unreadable}
 use Rattle.lines.specs.declared.line.Header.{Header}
 use Rattle.lines.specs.declared.line.Header.the-variants.{Ends, NoHeader}
-use Rattle.lines.specs.Services.{nameOf, callOf}
 use Rattle.lines.specs.Fields.{endOf, fieldsOf}
 
 -- the context, T or I, and the comma after it
@@ -44,7 +45,7 @@ lineOf wide s =
     letterThen (letterOf s) (λ x.
     nameThen (nameOf (drop 2 s)) (λ k takes n.
     fieldsThen (fieldsOf wide takes (drop (2 + n) s)) (λ a b c d m.
-    Reads x (callOf k a b c d) (2 + n + m))))
+    Reads x (service k .call a b c d) (2 + n + m))))
 
 abbrev pub headerThen : End → (ℕ → Header) → Header
 headerThen (Closes k) f = f k

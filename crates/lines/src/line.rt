@@ -1,17 +1,17 @@
 // One line of a list of calls, in the part of the file that begins at its first byte, and the header.
-// Each function is a definition of specs/Lines, for every value; it rests on names and fields.
+// Each function is a definition of specs/Lines, for every value; it rests on the fields and on services.
 ghost use mathlib.Core.Path.{_≡_};
-ghost use Rattle.lines.specs.Services.{callOf};
 ghost use Rattle.lines.specs.Lines.{letterOf, lineOf, headed, headerOf};
 use crate::fields::End;
 use crate::fields::Fields;
 use crate::fields::line_end;
 use crate::fields::read_fields;
-use crate::names::Name;
-use crate::names::read_name;
 use model::Call;
 use model::Context;
-use model::Event;
+use services::calls::Asked;
+use services::calls::call_of;
+use services::names::Name;
+use services::names::read_name;
 use text::words::begins;
 
 // The context that a line's first letter names.
@@ -53,101 +53,6 @@ fn read_letter(s: &[u8]) -> Letter
     Letter::NoLetter
 }
 
-// The call that the numbers a, b, c and d make of a service.
-fn call_of(number: u8, a: u32, b: u32, c: u32, d: u32) -> Call
-    ensures { λ r. ⌜ r ≡ callOf number a b c d ⌝ }
-{
-    match number {
-        0 => Call::TaskCreate {
-            task: a,
-            priority: b,
-            option: c,
-        },
-        1 => Call::TaskDelete { task: a },
-        2 => Call::TaskActivate { task: a },
-        3 => Call::TaskIactivate { task: a },
-        4 => Call::TaskExit,
-        5 => Call::TaskTerminate { task: a },
-        6 => Call::TaskSuspend { task: a },
-        7 => Call::TaskResume { task: a },
-        8 => Call::TaskSleep { timeout: a },
-        9 => Call::TaskWakeup { task: a },
-        10 => Call::TaskIwakeup { task: a },
-        11 => Call::TaskReleaseWait { task: a },
-        12 => Call::TaskIreleaseWait { task: a },
-        13 => Call::TaskChangePriority {
-            task: a,
-            priority: b,
-        },
-        14 => Call::SysTsliceTicks { level: a, slice: b },
-        15 => Call::TickIntProcessing,
-        16 => Call::SemCreate {
-            semaphore: a,
-            start: b,
-            maximum: c,
-        },
-        17 => Call::SemDelete { semaphore: a },
-        18 => Call::SemSignal { semaphore: a },
-        19 => Call::SemIsignal { semaphore: a },
-        20 => Call::SemAcquire {
-            semaphore: a,
-            timeout: b,
-        },
-        21 => Call::SemPolling { semaphore: a },
-        22 => Call::SemIpolling { semaphore: a },
-        23 => Call::Event {
-            flag: a,
-            service: Event::Create {
-                attributes: b,
-                bits: c,
-            },
-        },
-        24 => Call::Event {
-            flag: a,
-            service: Event::Delete,
-        },
-        25 => Call::Event {
-            flag: a,
-            service: Event::Set { bits: b },
-        },
-        26 => Call::Event {
-            flag: a,
-            service: Event::Iset { bits: b },
-        },
-        27 => Call::Event {
-            flag: a,
-            service: Event::Clear { bits: b },
-        },
-        28 => Call::Event {
-            flag: a,
-            service: Event::Iclear { bits: b },
-        },
-        29 => Call::Event {
-            flag: a,
-            service: Event::Wait {
-                pattern: b,
-                mode: c,
-                timeout: d,
-            },
-        },
-        30 => Call::Event {
-            flag: a,
-            service: Event::WaitPolling {
-                pattern: b,
-                mode: c,
-            },
-        },
-        31 => Call::Event {
-            flag: a,
-            service: Event::Iwait {
-                pattern: b,
-                mode: c,
-            },
-        },
-        _ => Call::TickIntProcessing,
-    }
-}
-
 // The line that begins s.
 pub fn read_line(s: &[u8], wide: bool) -> Line
     ensures { λ r. ⌜ r ≡ lineOf wide (now (s .entry)) ⌝ }
@@ -174,7 +79,9 @@ pub fn read_line(s: &[u8], wide: bool) -> Line
     else {
         return Line::Unreadable;
     };
-    let call = call_of(number, a, b, c, d);
+    let Asked::Named(call) = call_of(number, a, b, c, d) else {
+        return Line::Unreadable;
+    };
     Line::Reads {
         context,
         call,

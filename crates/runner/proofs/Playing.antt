@@ -18,6 +18,7 @@ use Rattle.kernel.specs.Answer.{answerOf}
 use Rattle.tables.specs.Lent.{stateIn}
 use Rattle.lines.specs.declared.line.Line.the-variants.{Reads, Unreadable}
 use Rattle.lines.specs.Lines.{lineOf}
+use Rattle.lines.proofs.Within.{line-in}
 use Rattle.walk.specs.declared.Turn.the-variants.{Plays, Faults}
 use Rattle.walk.specs.Script.{scriptIn}
 use Rattle.walk.specs.Rows.{Row, rowText, rowsText}
@@ -72,6 +73,10 @@ module _ (wide : Bool) (file : List ℕ) (h : ℕ) (cs rs : List ℕ) (at n size
         total = λ _. rw (t, ← z .1) (l .total);
       }
 
+  -- there is room for one row more
+  pub room : n < 4096
+  room = omega (arith, l .walk .behind, l .walk .inside, fits)
+
   -- a line that can't be read
   pub stops : at < length file → lineOf wide (drop at file) ≡ Unreadable → (r : Played) → r .fault ≡ n + 2 → Keeps r (scriptIn wide h file 2)
   stops more g r f =
@@ -86,16 +91,16 @@ module _ (wide : Bool) (file : List ℕ) (h : ℕ) (cs rs : List ℕ) (at n size
 
   -- a line that can, and its step
   module _ (more : at < length file) (x : Context) (c : Call) (m : ℕ) (g : lineOf wide (drop at file) ≡ Reads x c m) where
-    -- it ends within the file
-    pub within : at + m ≤ length file
-    within = reaches wide file at x c m (omega arith) g
+    -- it ends further on, and within the file
+    pub within : (at < at + m) × (at + m ≤ length file)
+    within = (omega (arith, some .0), reaches wide file at x c m (omega arith) g)
+      where
+        some : (0 < m) × (m ≤ length (drop at file))
+        some = rw g at (line-in wide (drop at file))
 
     module _ (r : Stepped) (s′ : State) (i : answerOf r s′ ≡ stepFrom run s x c) where
       onward : (at < at + m) × Walk wide file h (l .rows ++ (rowOf r ∷ [])) (at + m) (n + 1) (r .running) s′
       onward = walking.on wide file h (l .rows) at n run s (l .walk) more (Plays r (at + m)) s′ (played run at s (lineOf wide (drop at file)) x c m r s′ g i) r (at + m) refl
-
-      pub keeps : (n < 4096) × (at < at + m)
-      keeps = (omega (arith, l .walk .behind, l .walk .inside), onward .0)
 
       pub turns : (v k : ℕ) → v ≡ slotOf (r .code) → (k ≡ length (keptText (n + 1) v (r .running))) × (k ≤ 20)
           → Left wide file h (set cs n v) (set rs n (r .running)) (at + m) (n + 1) (size + k) (r .running) s′
@@ -107,7 +112,7 @@ module _ (wide : Bool) (file : List ℕ) (h : ℕ) (cs rs : List ℕ) (at n size
             short = omega (arith, l .short, w .1);
             codes# = length-set cs n v ∙ l .codes#;
             runs# = length-set rs n (r .running) ∙ l .runs#;
-            codes = kept-on cs n v _ _ (omega (arith, l .codes#, keeps .0)) (l .codes) (rw f (map-snoc (λ (y : Row). slotOf (y .code)) (l .rows) (rowOf r)));
-            runs = kept-on rs n (r .running) _ _ (omega (arith, l .runs#, keeps .0)) (l .runs) (map-snoc (λ (y : Row). y .running) (l .rows) (rowOf r));
+            codes = kept-on cs n v _ _ (omega (arith, l .codes#, room)) (l .codes) (rw f (map-snoc (λ (y : Row). slotOf (y .code)) (l .rows) (rowOf r)));
+            runs = kept-on rs n (r .running) _ _ (omega (arith, l .runs#, room)) (l .runs) (map-snoc (λ (y : Row). y .running) (l .rows) (rowOf r));
             total = omega (arith, l .total, w .0, length-snoc 1 (l .rows) (rowOf r), ap (λ (j : ℕ). length (rowText j (rowOf r))) e, ap length (row-kept (n + 1) (rowOf r)), ap (λ (u : ℕ). length (keptText (n + 1) u (r .running))) f);
           }

@@ -78,6 +78,10 @@ abbrev pub NumberIn : Number → ℕ → Type 0
 NumberIn (Digits v n) l = n ≤ l
 NumberIn NoNumber l = Unit
 
+-- what a call's result was found to be, said of what the callee ensures of it
+pub got : {A : Type 0} {r x y : A} → r ≡ x → r ≡ y → x ≡ y
+got p q = sym p ∙ q
+
 -- a fact of a choice, from the fact of each side
 pub cond-by : {A : Type 0} (P : A → Type 0) (b : Bool) (x y : A) → (b ≡ true → P x) → P y → P (cond b x y)
 cond-by P true x y p q = p refl

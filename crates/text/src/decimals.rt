@@ -41,7 +41,7 @@ pub fn width(n: u32) -> usize
 }
 
 // The digits of n from the place `at` on, and the place after them; without room nothing is written and the place stays.
-pub fn put_number(buf: &mut [u8], at: usize, n: u32) -> usize
+pub fn put_decimal(buf: &mut [u8], at: usize, n: u32) -> usize
     ensures { λ r. ⌜ (r ≡ after (now (buf .entry)) at (decimal n)) × (now (buf .exit) ≡ put (now (buf .entry)) at (decimal n)) ⌝ }
 {
     let digits = width(n);

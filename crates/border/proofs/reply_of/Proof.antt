@@ -5,14 +5,8 @@ use borrow.Author.Needs.{needs, sfits-of}
 use Rattle.border.proofs.reply_of.Statement.{statement}
 use Rattle.border.proofs.reply_of.Tie as tie
 
-code-number-requires : tie.Need-code-number-requires
-code-number-requires c κs = search needs
-
-cast-t5 : tie.Need-cast-t5
-cast-t5 c = search needs
-
 returns : tie.Need-returns
 returns c = rw (toZ-ofZ {w = w32} (sfits-of {w = w32} (c .before .code-number .ok)), c .before .code-number .ensures)
 
 pub reply-of-spec : {M : Type 1} → statement M
-reply-of-spec = tie.close (tie.spec code-number-requires cast-t5 returns)
+reply-of-spec = tie.close (tie.spec (λ c κs. search needs) (λ c. search needs) returns)

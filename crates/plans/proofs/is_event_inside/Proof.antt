@@ -6,15 +6,6 @@ use Rattle.plans.proofs.Laws.{no-event}
 use Rattle.plans.proofs.is_event_inside.Statement.{statement}
 use Rattle.plans.proofs.is_event_inside.Tie as tie
 
-enum-told : tie.Need-enum-told
-enum-told c = search needs
-
-enum-told-2 : tie.Need-enum-told-2
-enum-told-2 c = search needs
-
-enum-told-3 : tie.Need-enum-told-3
-enum-told-3 c = search needs
-
 returns : tie.Need-returns
 unfolding isMine service services tasks system semaphores Services.events
 returns c = rw (c .enum-told .given .1)
@@ -33,4 +24,4 @@ returns-4 c = rw (no-event _ (c .match .keys4))
 
 pub is-event-inside-spec : {M : Type 1} → statement M
 is-event-inside-spec =
-    tie.close (tie.spec enum-told enum-told-2 enum-told-3 returns returns-2 returns-3 returns-4)
+    tie.close (tie.spec (λ c. search needs) (λ c. search needs) (λ c. search needs) returns returns-2 returns-3 returns-4)

@@ -6,30 +6,6 @@ use Rattle.plans.proofs.Laws.{no-call}
 use Rattle.plans.proofs.is_inside.Statement.{statement}
 use Rattle.plans.proofs.is_inside.Tie as tie
 
-enum-told : tie.Need-enum-told
-enum-told c = search needs
-
-enum-told-2 : tie.Need-enum-told-2
-enum-told-2 c = search needs
-
-enum-told-3 : tie.Need-enum-told-3
-enum-told-3 c = search needs
-
-enum-told-4 : tie.Need-enum-told-4
-enum-told-4 c = search needs
-
-enum-told-5 : tie.Need-enum-told-5
-enum-told-5 c = search needs
-
-enum-told-6 : tie.Need-enum-told-6
-enum-told-6 c = search needs
-
-enum-known-a : tie.Need-enum-known-a
-enum-known-a c = search needs
-
-is-event-inside-requires : tie.Need-is-event-inside-requires
-is-event-inside-requires c κs = search needs
-
 returns : tie.Need-returns
 unfolding isMine service services tasks system semaphores Services.events
 returns c = rw (c .enum-told .given .1)
@@ -66,14 +42,14 @@ pub is-inside-spec : {M : Type 1} → statement M
 is-inside-spec =
     tie.close
     (tie.spec
-    enum-told
-    enum-told-2
-    enum-told-3
-    enum-told-4
-    enum-told-5
-    enum-told-6
-    enum-known-a
-    is-event-inside-requires
+    (λ c. search needs)
+    (λ c. search needs)
+    (λ c. search needs)
+    (λ c. search needs)
+    (λ c. search needs)
+    (λ c. search needs)
+    (λ c. search needs)
+    (λ c κs. search needs)
     returns
     returns-2
     returns-3

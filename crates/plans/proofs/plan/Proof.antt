@@ -5,150 +5,6 @@ use Rattle.model.specs.Call.{plan}
 use Rattle.plans.proofs.plan.Statement.{statement}
 use Rattle.plans.proofs.plan.Tie as tie
 
-enum-known-a : tie.Need-enum-known-a
-enum-known-a c = search needs
-
-create-requires : tie.Need-create-requires
-create-requires c κs = search needs
-
-enum-known-a-2 : tie.Need-enum-known-a-2
-enum-known-a-2 c = search needs
-
-delete-requires : tie.Need-delete-requires
-delete-requires c κs = search needs
-
-enum-known-a-3 : tie.Need-enum-known-a-3
-enum-known-a-3 c = search needs
-
-activate-requires : tie.Need-activate-requires
-activate-requires c κs = search needs
-
-enum-known-a-4 : tie.Need-enum-known-a-4
-enum-known-a-4 c = search needs
-
-activate-requires-2 : tie.Need-activate-requires-2
-activate-requires-2 c κs = search needs
-
-enum-told : tie.Need-enum-told
-enum-told c = search needs
-
-exit-requires : tie.Need-exit-requires
-exit-requires c κs = search needs
-
-enum-known-a-5 : tie.Need-enum-known-a-5
-enum-known-a-5 c = search needs
-
-terminate-requires : tie.Need-terminate-requires
-terminate-requires c κs = search needs
-
-enum-known-a-6 : tie.Need-enum-known-a-6
-enum-known-a-6 c = search needs
-
-suspend-requires : tie.Need-suspend-requires
-suspend-requires c κs = search needs
-
-enum-known-a-7 : tie.Need-enum-known-a-7
-enum-known-a-7 c = search needs
-
-resume-requires : tie.Need-resume-requires
-resume-requires c κs = search needs
-
-enum-known-a-8 : tie.Need-enum-known-a-8
-enum-known-a-8 c = search needs
-
-sleep-requires : tie.Need-sleep-requires
-sleep-requires c κs = search needs
-
-enum-known-a-9 : tie.Need-enum-known-a-9
-enum-known-a-9 c = search needs
-
-wakeup-requires : tie.Need-wakeup-requires
-wakeup-requires c κs = search needs
-
-enum-known-a-10 : tie.Need-enum-known-a-10
-enum-known-a-10 c = search needs
-
-wakeup-requires-2 : tie.Need-wakeup-requires-2
-wakeup-requires-2 c κs = search needs
-
-enum-known-a-11 : tie.Need-enum-known-a-11
-enum-known-a-11 c = search needs
-
-release-wait-requires : tie.Need-release-wait-requires
-release-wait-requires c κs = search needs
-
-enum-known-a-12 : tie.Need-enum-known-a-12
-enum-known-a-12 c = search needs
-
-release-wait-requires-2 : tie.Need-release-wait-requires-2
-release-wait-requires-2 c κs = search needs
-
-enum-known-a-13 : tie.Need-enum-known-a-13
-enum-known-a-13 c = search needs
-
-change-priority-requires : tie.Need-change-priority-requires
-change-priority-requires c κs = search needs
-
-enum-known-a-14 : tie.Need-enum-known-a-14
-enum-known-a-14 c = search needs
-
-tslice-ticks-requires : tie.Need-tslice-ticks-requires
-tslice-ticks-requires c κs = search needs
-
-enum-told-2 : tie.Need-enum-told-2
-enum-told-2 c = search needs
-
-tick-requires : tie.Need-tick-requires
-tick-requires c κs = search needs
-
-enum-known-a-15 : tie.Need-enum-known-a-15
-enum-known-a-15 c = search needs
-
-sem-create-requires : tie.Need-sem-create-requires
-sem-create-requires c κs = search needs
-
-enum-known-a-16 : tie.Need-enum-known-a-16
-enum-known-a-16 c = search needs
-
-sem-delete-requires : tie.Need-sem-delete-requires
-sem-delete-requires c κs = search needs
-
-enum-known-a-17 : tie.Need-enum-known-a-17
-enum-known-a-17 c = search needs
-
-signal-requires : tie.Need-signal-requires
-signal-requires c κs = search needs
-
-enum-known-a-18 : tie.Need-enum-known-a-18
-enum-known-a-18 c = search needs
-
-signal-requires-2 : tie.Need-signal-requires-2
-signal-requires-2 c κs = search needs
-
-enum-known-a-19 : tie.Need-enum-known-a-19
-enum-known-a-19 c = search needs
-
-acquire-requires : tie.Need-acquire-requires
-acquire-requires c κs = search needs
-
-enum-known-a-20 : tie.Need-enum-known-a-20
-enum-known-a-20 c = search needs
-
-polling-requires : tie.Need-polling-requires
-polling-requires c κs = search needs
-
-enum-known-a-21 : tie.Need-enum-known-a-21
-enum-known-a-21 c = search needs
-
-polling-requires-2 : tie.Need-polling-requires-2
-polling-requires-2 c κs = search needs
-
-enum-known-a-22 : tie.Need-enum-known-a-22
-enum-known-a-22 c = search needs
-
-event-plan-requires : tie.Need-event-plan-requires
-event-plan-requires c κs = search needs
-
 returns : tie.Need-returns
 unfolding plan
 returns c = rw (c .create .ensures, c .before .before .a .given .1)
@@ -249,54 +105,54 @@ pub plan-spec : {M : Type 1} → statement M
 plan-spec =
     tie.close
     (tie.spec
-    enum-known-a
-    create-requires
-    enum-known-a-2
-    delete-requires
-    enum-known-a-3
-    activate-requires
-    enum-known-a-4
-    activate-requires-2
-    enum-told
-    exit-requires
-    enum-known-a-5
-    terminate-requires
-    enum-known-a-6
-    suspend-requires
-    enum-known-a-7
-    resume-requires
-    enum-known-a-8
-    sleep-requires
-    enum-known-a-9
-    wakeup-requires
-    enum-known-a-10
-    wakeup-requires-2
-    enum-known-a-11
-    release-wait-requires
-    enum-known-a-12
-    release-wait-requires-2
-    enum-known-a-13
-    change-priority-requires
-    enum-known-a-14
-    tslice-ticks-requires
-    enum-told-2
-    tick-requires
-    enum-known-a-15
-    sem-create-requires
-    enum-known-a-16
-    sem-delete-requires
-    enum-known-a-17
-    signal-requires
-    enum-known-a-18
-    signal-requires-2
-    enum-known-a-19
-    acquire-requires
-    enum-known-a-20
-    polling-requires
-    enum-known-a-21
-    polling-requires-2
-    enum-known-a-22
-    event-plan-requires
+    (λ c. search needs)
+    (λ c κs. search needs)
+    (λ c. search needs)
+    (λ c κs. search needs)
+    (λ c. search needs)
+    (λ c κs. search needs)
+    (λ c. search needs)
+    (λ c κs. search needs)
+    (λ c. search needs)
+    (λ c κs. search needs)
+    (λ c. search needs)
+    (λ c κs. search needs)
+    (λ c. search needs)
+    (λ c κs. search needs)
+    (λ c. search needs)
+    (λ c κs. search needs)
+    (λ c. search needs)
+    (λ c κs. search needs)
+    (λ c. search needs)
+    (λ c κs. search needs)
+    (λ c. search needs)
+    (λ c κs. search needs)
+    (λ c. search needs)
+    (λ c κs. search needs)
+    (λ c. search needs)
+    (λ c κs. search needs)
+    (λ c. search needs)
+    (λ c κs. search needs)
+    (λ c. search needs)
+    (λ c κs. search needs)
+    (λ c. search needs)
+    (λ c κs. search needs)
+    (λ c. search needs)
+    (λ c κs. search needs)
+    (λ c. search needs)
+    (λ c κs. search needs)
+    (λ c. search needs)
+    (λ c κs. search needs)
+    (λ c. search needs)
+    (λ c κs. search needs)
+    (λ c. search needs)
+    (λ c κs. search needs)
+    (λ c. search needs)
+    (λ c κs. search needs)
+    (λ c. search needs)
+    (λ c κs. search needs)
+    (λ c. search needs)
+    (λ c κs. search needs)
     returns
     returns-2
     returns-3

@@ -4,120 +4,6 @@ use borrow.Author.Needs.{needs}
 use Rattle.plans.proofs.subject.Statement.{statement}
 use Rattle.plans.proofs.subject.Tie as tie
 
-enum-known-a : tie.Need-enum-known-a
-enum-known-a c = search needs
-
-cast-result : tie.Need-cast-result
-cast-result c = search needs
-
-enum-known-a-2 : tie.Need-enum-known-a-2
-enum-known-a-2 c = search needs
-
-cast-result-2 : tie.Need-cast-result-2
-cast-result-2 c = search needs
-
-enum-known-a-3 : tie.Need-enum-known-a-3
-enum-known-a-3 c = search needs
-
-cast-result-3 : tie.Need-cast-result-3
-cast-result-3 c = search needs
-
-enum-known-a-4 : tie.Need-enum-known-a-4
-enum-known-a-4 c = search needs
-
-cast-result-4 : tie.Need-cast-result-4
-cast-result-4 c = search needs
-
-enum-told : tie.Need-enum-told
-enum-told c = search needs
-
-enum-known-a-5 : tie.Need-enum-known-a-5
-enum-known-a-5 c = search needs
-
-cast-result-5 : tie.Need-cast-result-5
-cast-result-5 c = search needs
-
-enum-known-a-6 : tie.Need-enum-known-a-6
-enum-known-a-6 c = search needs
-
-cast-result-6 : tie.Need-cast-result-6
-cast-result-6 c = search needs
-
-enum-known-a-7 : tie.Need-enum-known-a-7
-enum-known-a-7 c = search needs
-
-cast-result-7 : tie.Need-cast-result-7
-cast-result-7 c = search needs
-
-enum-told-2 : tie.Need-enum-told-2
-enum-told-2 c = search needs
-
-enum-known-a-8 : tie.Need-enum-known-a-8
-enum-known-a-8 c = search needs
-
-cast-result-8 : tie.Need-cast-result-8
-cast-result-8 c = search needs
-
-enum-known-a-9 : tie.Need-enum-known-a-9
-enum-known-a-9 c = search needs
-
-cast-result-9 : tie.Need-cast-result-9
-cast-result-9 c = search needs
-
-enum-known-a-10 : tie.Need-enum-known-a-10
-enum-known-a-10 c = search needs
-
-cast-result-10 : tie.Need-cast-result-10
-cast-result-10 c = search needs
-
-enum-known-a-11 : tie.Need-enum-known-a-11
-enum-known-a-11 c = search needs
-
-cast-result-11 : tie.Need-cast-result-11
-cast-result-11 c = search needs
-
-enum-known-a-12 : tie.Need-enum-known-a-12
-enum-known-a-12 c = search needs
-
-cast-result-12 : tie.Need-cast-result-12
-cast-result-12 c = search needs
-
-enum-told-3 : tie.Need-enum-told-3
-enum-told-3 c = search needs
-
-enum-told-4 : tie.Need-enum-told-4
-enum-told-4 c = search needs
-
-enum-told-5 : tie.Need-enum-told-5
-enum-told-5 c = search needs
-
-enum-told-6 : tie.Need-enum-told-6
-enum-told-6 c = search needs
-
-enum-told-7 : tie.Need-enum-told-7
-enum-told-7 c = search needs
-
-enum-told-8 : tie.Need-enum-told-8
-enum-told-8 c = search needs
-
-enum-told-9 : tie.Need-enum-told-9
-enum-told-9 c = search needs
-
-enum-told-10 : tie.Need-enum-told-10
-enum-told-10 c = search needs
-
-enum-told-11 : tie.Need-enum-told-11
-enum-told-11 c = search needs
-
-enum-known-a-13 : tie.Need-enum-known-a-13
-enum-known-a-13 c = search needs
-
-event-subject-requires : tie.Need-event-subject-requires
-event-subject-requires c κs = search needs
-
-cast-result-13 : tie.Need-cast-result-13
-cast-result-13 c = search needs
-
 returns : tie.Need-returns
 returns c = rw (c .before .a .given .1)
 
@@ -194,44 +80,44 @@ pub subject-spec : {M : Type 1} → statement M
 subject-spec =
     tie.close
     (tie.spec
-    enum-known-a
-    cast-result
-    enum-known-a-2
-    cast-result-2
-    enum-known-a-3
-    cast-result-3
-    enum-known-a-4
-    cast-result-4
-    enum-told
-    enum-known-a-5
-    cast-result-5
-    enum-known-a-6
-    cast-result-6
-    enum-known-a-7
-    cast-result-7
-    enum-told-2
-    enum-known-a-8
-    cast-result-8
-    enum-known-a-9
-    cast-result-9
-    enum-known-a-10
-    cast-result-10
-    enum-known-a-11
-    cast-result-11
-    enum-known-a-12
-    cast-result-12
-    enum-told-3
-    enum-told-4
-    enum-told-5
-    enum-told-6
-    enum-told-7
-    enum-told-8
-    enum-told-9
-    enum-told-10
-    enum-told-11
-    enum-known-a-13
-    event-subject-requires
-    cast-result-13
+    (λ c. search needs)
+    (λ c. search needs)
+    (λ c. search needs)
+    (λ c. search needs)
+    (λ c. search needs)
+    (λ c. search needs)
+    (λ c. search needs)
+    (λ c. search needs)
+    (λ c. search needs)
+    (λ c. search needs)
+    (λ c. search needs)
+    (λ c. search needs)
+    (λ c. search needs)
+    (λ c. search needs)
+    (λ c. search needs)
+    (λ c. search needs)
+    (λ c. search needs)
+    (λ c. search needs)
+    (λ c. search needs)
+    (λ c. search needs)
+    (λ c. search needs)
+    (λ c. search needs)
+    (λ c. search needs)
+    (λ c. search needs)
+    (λ c. search needs)
+    (λ c. search needs)
+    (λ c. search needs)
+    (λ c. search needs)
+    (λ c. search needs)
+    (λ c. search needs)
+    (λ c. search needs)
+    (λ c. search needs)
+    (λ c. search needs)
+    (λ c. search needs)
+    (λ c. search needs)
+    (λ c. search needs)
+    (λ c κs. search needs)
+    (λ c. search needs)
     returns
     returns-2
     returns-3

@@ -8,33 +8,12 @@ use Rattle.checks.proofs.Laws.{refuses, passes, is-right, and-left, within-top}
 use Rattle.plans_event.proofs.event_clear.Statement.{statement}
 use Rattle.plans_event.proofs.event_clear.Tie as tie
 
-is-flag-requires : tie.Need-is-flag-requires
-is-flag-requires c κs = search needs
-
-checked-requires : tie.Need-checked-requires
-checked-requires c κs = search needs
-
-enum-known-gate : tie.Need-enum-known-gate
-enum-known-gate c = search needs
-
-refused-requires : tie.Need-refused-requires
-refused-requires c κs = search needs
-
 returns : tie.Need-returns
 unfolding eventClear withoutBits
 returns c = rw (c .refused .ensures, ← c .before .before .before .before .before .before .is-flag .ensures, refuses _ _ _ (c .before .before .before .before .checked .ensures) (c .before .before .gate .given .1))
 
-enum-told : tie.Need-enum-told
-enum-told c = search needs
-
 cast-f : tie.Need-cast-f
 cast-f c = omega (arith, within-top _ _ _ (c .before .before .before .before .is-flag .ensures) (and-left _ _ (is-right _ _ _ (c .before .before .checked .ensures) (c .enum-told .given .1))))
-
-sub-left : tie.Need-sub-left
-sub-left c = search needs
-
-flags-requires : tie.Need-flags-requires
-flags-requires c κs = search needs
 
 returns-2 : tie.Need-returns-2
 unfolding eventClear withoutBits
@@ -44,13 +23,13 @@ pub event-clear-spec : {M : Type 1} → statement M
 event-clear-spec =
     tie.close
     (tie.spec
-    is-flag-requires
-    checked-requires
-    enum-known-gate
-    refused-requires
+    (λ c κs. search needs)
+    (λ c κs. search needs)
+    (λ c. search needs)
+    (λ c κs. search needs)
     returns
-    enum-told
+    (λ c. search needs)
     cast-f
-    sub-left
-    flags-requires
+    (λ c. search needs)
+    (λ c κs. search needs)
     returns-2)

@@ -9,36 +9,15 @@ use Rattle.checks.proofs.Laws.{refuses, passes, is-right, and-left, and-right, 
 use Rattle.plans_event.proofs.event_create.Statement.{statement}
 use Rattle.plans_event.proofs.event_create.Tie as tie
 
-is-flag-requires : tie.Need-is-flag-requires
-is-flag-requires c κs = search needs
-
-is-attributes-requires : tie.Need-is-attributes-requires
-is-attributes-requires c κs = search needs
-
-checked-requires : tie.Need-checked-requires
-checked-requires c κs = search needs
-
-enum-known-gate : tie.Need-enum-known-gate
-enum-known-gate c = search needs
-
-refused-requires : tie.Need-refused-requires
-refused-requires c κs = search needs
-
 returns : tie.Need-returns
 unfolding eventCreate
 returns c = rw (c .refused .ensures, Bool·not-not, ← c .before .before .before .before .before .before .before .is-flag .ensures, ← c .before .before .before .before .before .before .is-attributes .ensures, refuses _ _ _ (c .before .before .before .before .checked .ensures) (c .before .before .gate .given .1))
-
-enum-told : tie.Need-enum-told
-enum-told c = search needs
 
 cast-f : tie.Need-cast-f
 cast-f c = omega (arith, within-top _ _ _ (c .before .before .before .before .before .is-flag .ensures) (and-left _ _ (is-right _ _ _ (c .before .before .checked .ensures) (c .enum-told .given .1))))
 
 add-kept : tie.Need-add-kept
 add-kept c = omega (arith, attributes-top (c .before .before .before .before .before .before .args .attributes) (c .before .before .before .before .is-attributes .ensures) (and-left _ _ (and-right (c .before .before .before .before .before .is-flag .result) _ (is-right _ _ _ (c .before .before .checked .ensures) (c .enum-told .given .1)))))
-
-flags-requires : tie.Need-flags-requires
-flags-requires c κs = search needs
 
 returns-2 : tie.Need-returns-2
 unfolding eventCreate
@@ -48,14 +27,14 @@ pub event-create-spec : {M : Type 1} → statement M
 event-create-spec =
     tie.close
     (tie.spec
-    is-flag-requires
-    is-attributes-requires
-    checked-requires
-    enum-known-gate
-    refused-requires
+    (λ c κs. search needs)
+    (λ c κs. search needs)
+    (λ c κs. search needs)
+    (λ c. search needs)
+    (λ c κs. search needs)
     returns
-    enum-told
+    (λ c. search needs)
     cast-f
     add-kept
-    flags-requires
+    (λ c κs. search needs)
     returns-2)

@@ -5,60 +5,6 @@ use Rattle.model.specs.Call.{eventPlan}
 use Rattle.plans_event.proofs.event_plan.Statement.{statement}
 use Rattle.plans_event.proofs.event_plan.Tie as tie
 
-enum-known-service : tie.Need-enum-known-service
-enum-known-service c = search needs
-
-event-create-requires : tie.Need-event-create-requires
-event-create-requires c κs = search needs
-
-enum-told : tie.Need-enum-told
-enum-told c = search needs
-
-event-delete-requires : tie.Need-event-delete-requires
-event-delete-requires c κs = search needs
-
-enum-known-service-2 : tie.Need-enum-known-service-2
-enum-known-service-2 c = search needs
-
-event-set-requires : tie.Need-event-set-requires
-event-set-requires c κs = search needs
-
-enum-known-service-3 : tie.Need-enum-known-service-3
-enum-known-service-3 c = search needs
-
-event-set-requires-2 : tie.Need-event-set-requires-2
-event-set-requires-2 c κs = search needs
-
-enum-known-service-4 : tie.Need-enum-known-service-4
-enum-known-service-4 c = search needs
-
-event-clear-requires : tie.Need-event-clear-requires
-event-clear-requires c κs = search needs
-
-enum-known-service-5 : tie.Need-enum-known-service-5
-enum-known-service-5 c = search needs
-
-event-clear-requires-2 : tie.Need-event-clear-requires-2
-event-clear-requires-2 c κs = search needs
-
-enum-known-service-6 : tie.Need-enum-known-service-6
-enum-known-service-6 c = search needs
-
-event-wait-requires : tie.Need-event-wait-requires
-event-wait-requires c κs = search needs
-
-enum-known-service-7 : tie.Need-enum-known-service-7
-enum-known-service-7 c = search needs
-
-event-poll-requires : tie.Need-event-poll-requires
-event-poll-requires c κs = search needs
-
-enum-known-service-8 : tie.Need-enum-known-service-8
-enum-known-service-8 c = search needs
-
-event-poll-requires-2 : tie.Need-event-poll-requires-2
-event-poll-requires-2 c κs = search needs
-
 returns : tie.Need-returns
 unfolding eventPlan
 returns c = rw (c .event-create .ensures, c .before .before .service .given .1)
@@ -99,24 +45,24 @@ pub event-plan-spec : {M : Type 1} → statement M
 event-plan-spec =
     tie.close
     (tie.spec
-    enum-known-service
-    event-create-requires
-    enum-told
-    event-delete-requires
-    enum-known-service-2
-    event-set-requires
-    enum-known-service-3
-    event-set-requires-2
-    enum-known-service-4
-    event-clear-requires
-    enum-known-service-5
-    event-clear-requires-2
-    enum-known-service-6
-    event-wait-requires
-    enum-known-service-7
-    event-poll-requires
-    enum-known-service-8
-    event-poll-requires-2
+    (λ c. search needs)
+    (λ c κs. search needs)
+    (λ c. search needs)
+    (λ c κs. search needs)
+    (λ c. search needs)
+    (λ c κs. search needs)
+    (λ c. search needs)
+    (λ c κs. search needs)
+    (λ c. search needs)
+    (λ c κs. search needs)
+    (λ c. search needs)
+    (λ c κs. search needs)
+    (λ c. search needs)
+    (λ c κs. search needs)
+    (λ c. search needs)
+    (λ c κs. search needs)
+    (λ c. search needs)
+    (λ c κs. search needs)
     returns
     returns-2
     returns-3

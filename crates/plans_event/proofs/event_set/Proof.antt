@@ -8,36 +8,12 @@ use Rattle.checks.proofs.Laws.{refuses, passes, is-right, and-left, within-top}
 use Rattle.plans_event.proofs.event_set.Statement.{statement}
 use Rattle.plans_event.proofs.event_set.Tie as tie
 
-is-flag-requires : tie.Need-is-flag-requires
-is-flag-requires c κs = search needs
-
-checked-requires : tie.Need-checked-requires
-checked-requires c κs = search needs
-
-enum-known-gate : tie.Need-enum-known-gate
-enum-known-gate c = search needs
-
-refused-requires : tie.Need-refused-requires
-refused-requires c κs = search needs
-
 returns : tie.Need-returns
 unfolding eventSet withBits
 returns c = rw (c .refused .ensures, ← c .before .before .before .before .before .before .is-flag .ensures, refuses _ _ _ (c .before .before .before .before .checked .ensures) (c .before .before .gate .given .1))
 
-enum-told : tie.Need-enum-told
-enum-told c = search needs
-
 cast-f : tie.Need-cast-f
 cast-f c = omega (arith, within-top _ _ _ (c .before .before .before .before .is-flag .ensures) (and-left _ _ (is-right _ _ _ (c .before .before .checked .ensures) (c .enum-told .given .1))))
-
-meets-first-requires : tie.Need-meets-first-requires
-meets-first-requires c κs = search needs
-
-bits-left-requires : tie.Need-bits-left-requires
-bits-left-requires c κs = search needs
-
-does-requires : tie.Need-does-requires
-does-requires c κs = search needs
 
 returns-2 : tie.Need-returns-2
 unfolding eventSet withBits
@@ -47,14 +23,14 @@ pub event-set-spec : {M : Type 1} → statement M
 event-set-spec =
     tie.close
     (tie.spec
-    is-flag-requires
-    checked-requires
-    enum-known-gate
-    refused-requires
+    (λ c κs. search needs)
+    (λ c κs. search needs)
+    (λ c. search needs)
+    (λ c κs. search needs)
     returns
-    enum-told
+    (λ c. search needs)
     cast-f
-    meets-first-requires
-    bits-left-requires
-    does-requires
+    (λ c κs. search needs)
+    (λ c κs. search needs)
+    (λ c κs. search needs)
     returns-2)

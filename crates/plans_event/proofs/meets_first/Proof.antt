@@ -9,15 +9,9 @@ returns : tie.Need-returns
 unfolding meetsFirst
 returns c = rw (eq-eqb _ _ (c .if1 .taken))
 
-cast-is-met : tie.Need-cast-is-met
-cast-is-met c = search needs
-
-is-met-requires : tie.Need-is-met-requires
-is-met-requires c κs = search needs
-
 returns-2 : tie.Need-returns-2
 unfolding meetsFirst
 returns-2 c = rw (c .is-met .ensures, ne-eqb _ _ (c .before .if1 .left))
 
 pub meets-first-spec : {M : Type 1} → statement M
-meets-first-spec = tie.close (tie.spec returns cast-is-met is-met-requires returns-2)
+meets-first-spec = tie.close (tie.spec returns (λ c. search needs) (λ c κs. search needs) returns-2)

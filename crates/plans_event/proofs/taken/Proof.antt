@@ -4,15 +4,9 @@ use Rattle.model.specs.Service.{taken}
 use Rattle.plans_event.proofs.taken.Statement.{statement}
 use Rattle.plans_event.proofs.taken.Tie as tie
 
-bits-left-requires : tie.Need-bits-left-requires
-bits-left-requires c κs = search needs
-
-gives-requires : tie.Need-gives-requires
-gives-requires c κs = search needs
-
 returns : tie.Need-returns
 unfolding taken
 returns c = rw (c .gives .ensures, c .before .bits-left .ensures)
 
 pub taken-spec : {M : Type 1} → statement M
-taken-spec = tie.close (tie.spec bits-left-requires gives-requires returns)
+taken-spec = tie.close (tie.spec (λ c κs. search needs) (λ c κs. search needs) returns)

@@ -8,33 +8,12 @@ use Rattle.checks.proofs.Laws.{refuses, passes, is-right, and-left, within-top}
 use Rattle.plans_semaphore.proofs.sem_create.Statement.{statement}
 use Rattle.plans_semaphore.proofs.sem_create.Tie as tie
 
-is-semaphore-requires : tie.Need-is-semaphore-requires
-is-semaphore-requires c κs = search needs
-
-is-maximum-requires : tie.Need-is-maximum-requires
-is-maximum-requires c κs = search needs
-
-checked-requires : tie.Need-checked-requires
-checked-requires c κs = search needs
-
-enum-known-gate : tie.Need-enum-known-gate
-enum-known-gate c = search needs
-
-refused-requires : tie.Need-refused-requires
-refused-requires c κs = search needs
-
 returns : tie.Need-returns
 unfolding semCreate
 returns c = rw (c .refused .ensures, Bool·not-not, ← c .before .before .before .before .before .before .before .is-semaphore .ensures, ← c .before .before .before .before .before .before .is-maximum .ensures, refuses _ _ _ (c .before .before .before .before .checked .ensures) (c .before .before .gate .given .1))
 
-enum-told : tie.Need-enum-told
-enum-told c = search needs
-
 cast-m : tie.Need-cast-m
 cast-m c = omega (arith, within-top _ _ _ (c .before .before .before .before .before .is-semaphore .ensures) (and-left _ _ (is-right _ _ _ (c .before .before .checked .ensures) (c .enum-told .given .1))))
-
-counts-requires : tie.Need-counts-requires
-counts-requires c κs = search needs
 
 returns-2 : tie.Need-returns-2
 unfolding semCreate
@@ -44,13 +23,13 @@ pub sem-create-spec : {M : Type 1} → statement M
 sem-create-spec =
     tie.close
     (tie.spec
-    is-semaphore-requires
-    is-maximum-requires
-    checked-requires
-    enum-known-gate
-    refused-requires
+    (λ c κs. search needs)
+    (λ c κs. search needs)
+    (λ c κs. search needs)
+    (λ c. search needs)
+    (λ c κs. search needs)
     returns
-    enum-told
+    (λ c. search needs)
     cast-m
-    counts-requires
+    (λ c κs. search needs)
     returns-2)

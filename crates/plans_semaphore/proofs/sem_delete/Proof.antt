@@ -7,30 +7,12 @@ use Rattle.checks.proofs.Laws.{refuses, passes, is-right, within-top}
 use Rattle.plans_semaphore.proofs.sem_delete.Statement.{statement}
 use Rattle.plans_semaphore.proofs.sem_delete.Tie as tie
 
-is-semaphore-requires : tie.Need-is-semaphore-requires
-is-semaphore-requires c κs = search needs
-
-checked-requires : tie.Need-checked-requires
-checked-requires c κs = search needs
-
-enum-known-gate : tie.Need-enum-known-gate
-enum-known-gate c = search needs
-
-refused-requires : tie.Need-refused-requires
-refused-requires c κs = search needs
-
 returns : tie.Need-returns
 unfolding semDelete
 returns c = rw (c .refused .ensures, ← c .before .before .before .before .before .before .is-semaphore .ensures, refuses _ _ _ (c .before .before .before .before .checked .ensures) (c .before .before .gate .given .1))
 
-enum-told : tie.Need-enum-told
-enum-told c = search needs
-
 cast-m : tie.Need-cast-m
 cast-m c = omega (arith, within-top _ _ _ (c .before .before .before .before .is-semaphore .ensures) (is-right _ _ _ (c .before .before .checked .ensures) (c .enum-told .given .1)))
-
-does-requires : tie.Need-does-requires
-does-requires c κs = search needs
 
 returns-2 : tie.Need-returns-2
 unfolding semDelete
@@ -40,12 +22,12 @@ pub sem-delete-spec : {M : Type 1} → statement M
 sem-delete-spec =
     tie.close
     (tie.spec
-    is-semaphore-requires
-    checked-requires
-    enum-known-gate
-    refused-requires
+    (λ c κs. search needs)
+    (λ c κs. search needs)
+    (λ c. search needs)
+    (λ c κs. search needs)
     returns
-    enum-told
+    (λ c. search needs)
     cast-m
-    does-requires
+    (λ c κs. search needs)
     returns-2)

@@ -8,30 +8,9 @@ use Rattle.checks.proofs.Laws.{refuses, passes, is-right, within-top}
 use Rattle.plans_semaphore.proofs.signal.Statement.{statement}
 use Rattle.plans_semaphore.proofs.signal.Tie as tie
 
-is-semaphore-requires : tie.Need-is-semaphore-requires
-is-semaphore-requires c κs = search needs
-
-checked-requires : tie.Need-checked-requires
-checked-requires c κs = search needs
-
-enum-known-gate : tie.Need-enum-known-gate
-enum-known-gate c = search needs
-
-refused-requires : tie.Need-refused-requires
-refused-requires c κs = search needs
-
 returns : tie.Need-returns
 unfolding signal
 returns c = rw (c .refused .ensures, ← c .before .before .before .before .before .before .is-semaphore .ensures, refuses _ _ _ (c .before .before .before .before .checked .ensures) (c .before .before .gate .given .1))
-
-enum-told : tie.Need-enum-told
-enum-told c = search needs
-
-ended-requires : tie.Need-ended-requires
-ended-requires c κs = search needs
-
-moves-requires : tie.Need-moves-requires
-moves-requires c κs = search needs
 
 returns-2 : tie.Need-returns-2
 unfolding signal
@@ -40,18 +19,9 @@ returns-2 c = rw (c .moves .ensures, c .before .ended .ensures, ← c .before .b
 cast-m : tie.Need-cast-m
 cast-m c = omega (arith, within-top _ _ _ (c .before .before .before .before .before .before .is-semaphore .ensures) (is-right _ _ _ (c .before .before .before .before .checked .ensures) (c .before .before .enum-told .given .1)))
 
-add-n : tie.Need-add-n
-add-n c = search needs
-
-counts-requires : tie.Need-counts-requires
-counts-requires c κs = search needs
-
 returns-3 : tie.Need-returns-3
 unfolding signal
 returns-3 c = rw (c .counts .ensures, ← c .before .before .before .before .before .before .before .is-semaphore .ensures, passes _ _ _ (c .before .before .before .before .before .checked .ensures) (c .before .before .before .enum-told .given .1), eq-eqb _ _ (c .before .before .if1 .left), lt-ltb _ _ (c .before .if2 .taken))
-
-refused-requires-2 : tie.Need-refused-requires-2
-refused-requires-2 c κs = search needs
 
 returns-4 : tie.Need-returns-4
 unfolding signal
@@ -61,18 +31,18 @@ pub signal-spec : {M : Type 1} → statement M
 signal-spec =
     tie.close
     (tie.spec
-    is-semaphore-requires
-    checked-requires
-    enum-known-gate
-    refused-requires
+    (λ c κs. search needs)
+    (λ c κs. search needs)
+    (λ c. search needs)
+    (λ c κs. search needs)
     returns
-    enum-told
-    ended-requires
-    moves-requires
+    (λ c. search needs)
+    (λ c κs. search needs)
+    (λ c κs. search needs)
     returns-2
     cast-m
-    add-n
-    counts-requires
+    (λ c. search needs)
+    (λ c κs. search needs)
     returns-3
-    refused-requires-2
+    (λ c κs. search needs)
     returns-4)

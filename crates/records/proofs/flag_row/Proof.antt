@@ -13,12 +13,9 @@ returns-2 : tie.Need-returns-2
 unfolding flagRow
 returns-2 c = rw (le-leb 1 _ (c .before .if1 .left), lt-leb _ 8 (c .if2 .taken))
 
-add-result : tie.Need-add-result
-add-result c = search needs
-
 returns-3 : tie.Need-returns-3
 unfolding flagRow
 returns-3 c = rw (le-leb 1 _ (c .before .if1 .left), le-leb _ 8 (c .if2 .left))
 
 pub flag-row-spec : {M : Type 1} → statement M
-flag-row-spec = tie.close (tie.spec returns returns-2 add-result returns-3)
+flag-row-spec = tie.close (tie.spec returns returns-2 (λ c. search needs) returns-3)

@@ -9,9 +9,6 @@ returns : tie.Need-returns
 unfolding rowOf
 returns c = rw (eq-eqb _ _ (c .if1 .taken))
 
-flag-row-requires : tie.Need-flag-row-requires
-flag-row-requires c κs = search needs
-
 returns-2 : tie.Need-returns-2
 unfolding rowOf
 returns-2 c = rw (c .flag-row .ensures, ne-eqb _ _ (c .before .before .if1 .left), eq-eqb _ _ (c .before .if2 .taken))
@@ -21,4 +18,4 @@ unfolding rowOf
 returns-3 c = rw (ne-eqb _ _ (c .before .if1 .left), ne-eqb _ _ (c .if2 .left))
 
 pub row-of-spec : {M : Type 1} → statement M
-row-of-spec = tie.close (tie.spec returns flag-row-requires returns-2 returns-3)
+row-of-spec = tie.close (tie.spec returns (λ c κs. search needs) returns-2 returns-3)

@@ -4,24 +4,6 @@ use Rattle.model.specs.Task.{told}
 use Rattle.records.proofs.told.Statement.{statement}
 use Rattle.records.proofs.told.Tie as tie
 
-enum-told : tie.Need-enum-told
-enum-told c = search needs
-
-ended-requires : tie.Need-ended-requires
-ended-requires c κs = search needs
-
-enum-known-news : tie.Need-enum-known-news
-enum-known-news c = search needs
-
-cast-is-met : tie.Need-cast-is-met
-cast-is-met c = search needs
-
-is-met-requires : tie.Need-is-met-requires
-is-met-requires c κs = search needs
-
-ended-requires-2 : tie.Need-ended-requires-2
-ended-requires-2 c κs = search needs
-
 returns : tie.Need-returns
 unfolding told
 returns c = rw (c .ended2 .ensures, c .before .before .before .before .before .news .given .1, ← c .before .before .is-met .ensures, c .before .if1 .taken)
@@ -38,12 +20,12 @@ pub told-spec : {M : Type 1} → statement M
 told-spec =
     tie.close
     (tie.spec
-    enum-told
-    ended-requires
-    enum-known-news
-    cast-is-met
-    is-met-requires
-    ended-requires-2
+    (λ c. search needs)
+    (λ c κs. search needs)
+    (λ c. search needs)
+    (λ c. search needs)
+    (λ c κs. search needs)
+    (λ c κs. search needs)
     returns
     returns-2
     returns-3)

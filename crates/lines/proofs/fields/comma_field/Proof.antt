@@ -4,26 +4,14 @@ use native.Mathlib.Omega.{arith}
 use borrow.Author.Tests.{eq-eqb, ne-eqb}
 use Rattle.text.proofs.Places.{is-within}
 use Rattle.lines.specs.Fields.{commaField}
-use Rattle.lines.proofs.Within.{got}
+use Rattle.text.proofs.Reading.{got}
 use borrow.Author.Needs.{needs}
 use Rattle.lines.proofs.fields.comma_field.Statement.{statement}
 use Rattle.lines.proofs.fields.comma_field.Tie as tie
 
-field-requires : tie.Need-field-requires
-field-requires c κs = search needs
-
-enum-known-value : tie.Need-enum-known-value
-enum-known-value c = search needs
-
-enum-told : tie.Need-enum-told
-enum-told c = search needs
-
 returns : tie.Need-returns
 unfolding commaField
 returns c = simp (got (c .before .before .field .ensures) (c .enum-told .given .1))
-
-byte-at-requires : tie.Need-byte-at-requires
-byte-at-requires c κs = search needs
 
 add-t8 : tie.Need-add-t8
 add-t8 c =
@@ -42,11 +30,11 @@ pub comma-field-spec : {M : Type 1} → statement M
 comma-field-spec =
     tie.close
     (tie.spec
-    field-requires
-    enum-known-value
-    enum-told
+    (λ c κs. search needs)
+    (λ c. search needs)
+    (λ c. search needs)
     returns
-    byte-at-requires
+    (λ c κs. search needs)
     add-t8
     returns-2
     returns-3)

@@ -5,9 +5,6 @@ use borrow.Author.Needs.{needs}
 use Rattle.lines.proofs.fields.field.Statement.{statement}
 use Rattle.lines.proofs.fields.field.Tie as tie
 
-read-number-requires : tie.Need-read-number-requires
-read-number-requires c κs = search needs
-
 returns : tie.Need-returns
 unfolding fieldOf
 returns c = rw (c .before .if1 .taken) (c .read-number .ensures)
@@ -17,4 +14,4 @@ unfolding fieldOf
 returns-2 c = rw (c .if1 .left)
 
 pub field-spec : {M : Type 1} → statement M
-field-spec = tie.close (tie.spec read-number-requires returns returns-2)
+field-spec = tie.close (tie.spec (λ c κs. search needs) returns returns-2)

@@ -8,7 +8,8 @@ use Rattle.text.specs.declared.number.Number.the-variants.{Digits}
 use Rattle.text.proofs.Places.{part-of}
 use Rattle.lines.specs.declared.fields.End.the-variants.{Closes}
 use Rattle.lines.specs.Fields.{fieldOf, endOf, lastField}
-use Rattle.lines.proofs.Within.{got, after, field-in, end-in}
+use Rattle.text.proofs.Reading.{got}
+use Rattle.lines.proofs.Within.{after, field-in, end-in}
 use borrow.Author.Needs.{needs}
 use Rattle.lines.proofs.fields.last_field.Statement.{statement}
 use Rattle.lines.proofs.fields.last_field.Tie as tie
@@ -23,15 +24,6 @@ in1 c = rw (e1 c) at (field-in (c .before .before .before .before .args .used) (
 e2 : (c : tie.After-end) → endOf (drop (c .before .before .before .before .before .value .given .0 .1 .0) (c .before .before .before .before .before .before .before .before .before .args .s .now)) ≡ Closes (c .end .given .0 .0)
 e2 c = got (part-of endOf (c .before .before .before .before .before .before .before .before .before .args .s .now) (c .before .before .before .before .before .value .given .0 .1 .0) (c .before .before .line-end .ensures)) (c .end .given .1)
 
-field-requires : tie.Need-field-requires
-field-requires c κs = search needs
-
-enum-known-value : tie.Need-enum-known-value
-enum-known-value c = search needs
-
-enum-told : tie.Need-enum-told
-enum-told c = search needs
-
 returns : tie.Need-returns
 unfolding lastField
 returns c = simp (got (c .before .before .field .ensures) (c .enum-told .given .1))
@@ -41,18 +33,6 @@ sub-line-end c = in1 (c .before)
 
 part-line-end-start : tie.Need-part-line-end-start
 part-line-end-start c = in1 (c .before)
-
-part-line-end-end : tie.Need-part-line-end-end
-part-line-end-end c = search needs
-
-line-end-requires : tie.Need-line-end-requires
-line-end-requires c κs = search needs
-
-enum-known-end : tie.Need-enum-known-end
-enum-known-end c = search needs
-
-enum-told-2 : tie.Need-enum-told-2
-enum-told-2 c = search needs
 
 returns-2 : tie.Need-returns-2
 unfolding lastField
@@ -73,16 +53,16 @@ pub last-field-spec : {M : Type 1} → statement M
 last-field-spec =
     tie.close
     (tie.spec
-    field-requires
-    enum-known-value
-    enum-told
+    (λ c κs. search needs)
+    (λ c. search needs)
+    (λ c. search needs)
     returns
     sub-line-end
     part-line-end-start
-    part-line-end-end
-    line-end-requires
-    enum-known-end
-    enum-told-2
+    (λ c. search needs)
+    (λ c κs. search needs)
+    (λ c. search needs)
+    (λ c. search needs)
     returns-2
     add-t9
     returns-3)

@@ -2,7 +2,7 @@
 -- It rests on the definition alone.
 use borrow.Author.Tests.{eq-eqb, ne-eqb}
 use Rattle.lines.specs.Fields.{endOf}
-use Rattle.lines.proofs.Within.{got}
+use Rattle.text.proofs.Reading.{got}
 use borrow.Author.Needs.{needs}
 use Rattle.lines.proofs.fields.line_end.Statement.{statement}
 use Rattle.lines.proofs.fields.line_end.Tie as tie
@@ -11,21 +11,9 @@ returns : tie.Need-returns
 unfolding endOf
 returns c = rw (eq-eqb _ 0 (c .if1 .taken))
 
-slice-aggregate-begins : tie.Need-slice-aggregate-begins
-slice-aggregate-begins c = search needs
-
-begins-requires : tie.Need-begins-requires
-begins-requires c κs = search needs
-
 returns-2 : tie.Need-returns-2
 unfolding endOf
 returns-2 c = rw (ne-eqb _ 0 (c .before .before .before .if1 .left), got (c .before .begins .ensures) (c .if2 .taken))
-
-slice-aggregate-begins-2 : tie.Need-slice-aggregate-begins-2
-slice-aggregate-begins-2 c = search needs
-
-begins-requires-2 : tie.Need-begins-requires-2
-begins-requires-2 c κs = search needs
 
 returns-3 : tie.Need-returns-3
 unfolding endOf
@@ -40,10 +28,10 @@ line-end-spec =
     tie.close
     (tie.spec
     returns
-    slice-aggregate-begins
-    begins-requires
+    (λ c. search needs)
+    (λ c κs. search needs)
     returns-2
-    slice-aggregate-begins-2
-    begins-requires-2
+    (λ c. search needs)
+    (λ c κs. search needs)
     returns-3
     returns-4)

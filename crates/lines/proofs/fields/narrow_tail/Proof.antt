@@ -2,7 +2,7 @@
 -- It rests on the definition alone.
 use borrow.Author.Tests.{lt-ltb, le-ltb}
 use Rattle.lines.specs.Fields.{narrowTail}
-use Rattle.lines.proofs.Within.{got}
+use Rattle.text.proofs.Reading.{got}
 use borrow.Author.Needs.{needs}
 use Rattle.lines.proofs.fields.narrow_tail.Statement.{statement}
 use Rattle.lines.proofs.fields.narrow_tail.Tie as tie
@@ -10,15 +10,6 @@ use Rattle.lines.proofs.fields.narrow_tail.Tie as tie
 returns : tie.Need-returns
 unfolding narrowTail
 returns c = rw (lt-ltb _ _ (c .if1 .taken))
-
-last-field-requires : tie.Need-last-field-requires
-last-field-requires c κs = search needs
-
-enum-known-c : tie.Need-enum-known-c
-enum-known-c c = search needs
-
-enum-told : tie.Need-enum-told
-enum-told c = search needs
 
 returns-2 : tie.Need-returns-2
 unfolding narrowTail
@@ -30,4 +21,4 @@ returns-3 c = simp (le-ltb _ _ (c .before .before .before .before .if1 .left)) (
 
 pub narrow-tail-spec : {M : Type 1} → statement M
 narrow-tail-spec =
-    tie.close (tie.spec returns last-field-requires enum-known-c enum-told returns-2 returns-3)
+    tie.close (tie.spec returns (λ c κs. search needs) (λ c. search needs) (λ c. search needs) returns-2 returns-3)

@@ -9,7 +9,8 @@ use Rattle.text.specs.declared.number.Number.the-variants.{Digits}
 use Rattle.text.proofs.Places.{part-of}
 use Rattle.lines.specs.declared.fields.Tail.the-variants.{Two}
 use Rattle.lines.specs.Fields.{commaField, tailOf, fieldsOf}
-use Rattle.lines.proofs.Within.{got, after, comma-in, tail-in}
+use Rattle.text.proofs.Reading.{got}
+use Rattle.lines.proofs.Within.{after, comma-in, tail-in}
 use borrow.Author.Needs.{needs}
 use Rattle.lines.proofs.fields.read_fields.Statement.{statement}
 use Rattle.lines.proofs.fields.read_fields.Tie as tie
@@ -43,15 +44,6 @@ e3 c =
     let a = d .before .before .before .before .args in
     got (part-of (tailOf (a .wide) (a .takes)) (a .s .now) (d .a .given .0 .1 .0 + e .b .given .0 .1 .0) (c .before .before .read-tail .ensures)) (c .c .given .1)
 
-comma-field-requires : tie.Need-comma-field-requires
-comma-field-requires c κs = search needs
-
-enum-known-a : tie.Need-enum-known-a
-enum-known-a c = search needs
-
-enum-told : tie.Need-enum-told
-enum-told c = search needs
-
 returns : tie.Need-returns
 unfolding fieldsOf
 returns c = simp (got (c .before .before .comma-field .ensures) (c .enum-told .given .1))
@@ -61,18 +53,6 @@ sub-comma-field c = in1 (c .before)
 
 part-comma-field-start : tie.Need-part-comma-field-start
 part-comma-field-start c = in1 (c .before)
-
-part-comma-field-end : tie.Need-part-comma-field-end
-part-comma-field-end c = search needs
-
-comma-field-requires-2 : tie.Need-comma-field-requires-2
-comma-field-requires-2 c κs = search needs
-
-enum-known-b : tie.Need-enum-known-b
-enum-known-b c = search needs
-
-enum-told-2 : tie.Need-enum-told-2
-enum-told-2 c = search needs
 
 returns-2 : tie.Need-returns-2
 unfolding fieldsOf
@@ -89,18 +69,6 @@ sub-read-tail c = in2 (c .before)
 
 part-read-tail-start : tie.Need-part-read-tail-start
 part-read-tail-start c = in2 (c .before)
-
-part-read-tail-end : tie.Need-part-read-tail-end
-part-read-tail-end c = search needs
-
-read-tail-requires : tie.Need-read-tail-requires
-read-tail-requires c κs = search needs
-
-enum-known-c : tie.Need-enum-known-c
-enum-known-c c = search needs
-
-enum-told-3 : tie.Need-enum-told-3
-enum-told-3 c = search needs
 
 returns-3 : tie.Need-returns-3
 unfolding fieldsOf
@@ -126,24 +94,24 @@ pub read-fields-spec : {M : Type 1} → statement M
 read-fields-spec =
     tie.close
     (tie.spec
-    comma-field-requires
-    enum-known-a
-    enum-told
+    (λ c κs. search needs)
+    (λ c. search needs)
+    (λ c. search needs)
     returns
     sub-comma-field
     part-comma-field-start
-    part-comma-field-end
-    comma-field-requires-2
-    enum-known-b
-    enum-told-2
+    (λ c. search needs)
+    (λ c κs. search needs)
+    (λ c. search needs)
+    (λ c. search needs)
     returns-2
     add-at
     sub-read-tail
     part-read-tail-start
-    part-read-tail-end
-    read-tail-requires
-    enum-known-c
-    enum-told-3
+    (λ c. search needs)
+    (λ c κs. search needs)
+    (λ c. search needs)
+    (λ c. search needs)
     returns-3
     add-t16
     returns-4)

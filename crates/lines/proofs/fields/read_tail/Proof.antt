@@ -5,19 +5,13 @@ use borrow.Author.Needs.{needs}
 use Rattle.lines.proofs.fields.read_tail.Statement.{statement}
 use Rattle.lines.proofs.fields.read_tail.Tie as tie
 
-wide-tail-requires : tie.Need-wide-tail-requires
-wide-tail-requires c κs = search needs
-
 returns : tie.Need-returns
 unfolding tailOf
 returns c = rw (c .before .if1 .taken) (c .wide-tail .ensures)
-
-narrow-tail-requires : tie.Need-narrow-tail-requires
-narrow-tail-requires c κs = search needs
 
 returns-2 : tie.Need-returns-2
 unfolding tailOf
 returns-2 c = rw (c .before .if1 .left) (c .narrow-tail .ensures)
 
 pub read-tail-spec : {M : Type 1} → statement M
-read-tail-spec = tie.close (tie.spec wide-tail-requires returns narrow-tail-requires returns-2)
+read-tail-spec = tie.close (tie.spec (λ c κs. search needs) returns (λ c κs. search needs) returns-2)

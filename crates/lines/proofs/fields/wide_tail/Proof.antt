@@ -8,7 +8,8 @@ use lib.ListN.{length, drop}
 use Rattle.text.specs.declared.number.Number.the-variants.{Digits}
 use Rattle.text.proofs.Places.{part-of}
 use Rattle.lines.specs.Fields.{commaField, lastField, wideTail}
-use Rattle.lines.proofs.Within.{got, after, comma-in, last-in}
+use Rattle.text.proofs.Reading.{got}
+use Rattle.lines.proofs.Within.{after, comma-in, last-in}
 use borrow.Author.Needs.{needs}
 use Rattle.lines.proofs.fields.wide_tail.Statement.{statement}
 use Rattle.lines.proofs.fields.wide_tail.Tie as tie
@@ -28,15 +29,6 @@ e2 c =
     let a = v .before .before .before .before .args in
     got (part-of (lastField (ltb 3 (a .takes))) (a .s .now) (v .c .given .0 .1 .0) (c .before .before .last-field .ensures)) (c .d .given .1)
 
-comma-field-requires : tie.Need-comma-field-requires
-comma-field-requires c κs = search needs
-
-enum-known-c : tie.Need-enum-known-c
-enum-known-c c = search needs
-
-enum-told : tie.Need-enum-told
-enum-told c = search needs
-
 returns : tie.Need-returns
 unfolding wideTail
 returns c = simp (got (c .before .before .comma-field .ensures) (c .enum-told .given .1))
@@ -46,18 +38,6 @@ sub-last-field c = in1 (c .before)
 
 part-last-field-start : tie.Need-part-last-field-start
 part-last-field-start c = in1 (c .before)
-
-part-last-field-end : tie.Need-part-last-field-end
-part-last-field-end c = search needs
-
-last-field-requires : tie.Need-last-field-requires
-last-field-requires c κs = search needs
-
-enum-known-d : tie.Need-enum-known-d
-enum-known-d c = search needs
-
-enum-told-2 : tie.Need-enum-told-2
-enum-told-2 c = search needs
 
 returns-2 : tie.Need-returns-2
 unfolding wideTail
@@ -81,16 +61,16 @@ pub wide-tail-spec : {M : Type 1} → statement M
 wide-tail-spec =
     tie.close
     (tie.spec
-    comma-field-requires
-    enum-known-c
-    enum-told
+    (λ c κs. search needs)
+    (λ c. search needs)
+    (λ c. search needs)
     returns
     sub-last-field
     part-last-field-start
-    part-last-field-end
-    last-field-requires
-    enum-known-d
-    enum-told-2
+    (λ c. search needs)
+    (λ c κs. search needs)
+    (λ c. search needs)
+    (λ c. search needs)
     returns-2
     add-t11
     returns-3)

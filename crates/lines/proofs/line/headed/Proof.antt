@@ -12,7 +12,8 @@ use Rattle.text.proofs.Places.{part-of}
 use Rattle.lines.specs.declared.fields.End.the-variants.{Closes}
 use Rattle.lines.specs.Fields.{endOf}
 use Rattle.lines.specs.Lines.{headed}
-use Rattle.lines.proofs.Within.{got, after, end-in}
+use Rattle.text.proofs.Reading.{got}
+use Rattle.lines.proofs.Within.{after, end-in}
 use borrow.Author.Needs.{needs}
 use Rattle.lines.proofs.line.headed.Statement.{statement}
 use Rattle.lines.proofs.line.headed.Tie as tie
@@ -30,9 +31,6 @@ e2 c =
     let a = c .before .before .before .before .before .before .before .before .args in
     got (part-of endOf (a .s .now) (length (a .t .now)) (c .before .before .line-end .ensures)) (c .next .given .1)
 
-begins-requires : tie.Need-begins-requires
-begins-requires c κs = search needs
-
 returns : tie.Need-returns
 unfolding headed
 returns c = simp (got (c .before .begins .ensures) (not-true _ (c .if1 .taken)))
@@ -42,18 +40,6 @@ sub-line-end c = in1 c
 
 part-line-end-start : tie.Need-part-line-end-start
 part-line-end-start c = in1 c
-
-part-line-end-end : tie.Need-part-line-end-end
-part-line-end-end c = search needs
-
-line-end-requires : tie.Need-line-end-requires
-line-end-requires c κs = search needs
-
-enum-known-next : tie.Need-enum-known-next
-enum-known-next c = search needs
-
-enum-told : tie.Need-enum-told
-enum-told c = search needs
 
 returns-2 : tie.Need-returns-2
 unfolding headed
@@ -76,14 +62,14 @@ pub headed-spec : {M : Type 1} → statement M
 headed-spec =
     tie.close
     (tie.spec
-    begins-requires
+    (λ c κs. search needs)
     returns
     sub-line-end
     part-line-end-start
-    part-line-end-end
-    line-end-requires
-    enum-known-next
-    enum-told
+    (λ c. search needs)
+    (λ c κs. search needs)
+    (λ c. search needs)
+    (λ c. search needs)
     returns-2
     add-t10
     returns-3)

@@ -1,26 +1,14 @@
 -- `lines::line::read_letter` meets its contract: letter by letter.
 -- It rests on the definition alone.
 use Rattle.lines.specs.Lines.{letterOf}
-use Rattle.lines.proofs.Within.{got}
+use Rattle.text.proofs.Reading.{got}
 use borrow.Author.Needs.{needs}
 use Rattle.lines.proofs.line.read_letter.Statement.{statement}
 use Rattle.lines.proofs.line.read_letter.Tie as tie
 
-slice-aggregate-begins : tie.Need-slice-aggregate-begins
-slice-aggregate-begins c = search needs
-
-begins-requires : tie.Need-begins-requires
-begins-requires c κs = search needs
-
 returns : tie.Need-returns
 unfolding letterOf
 returns c = rw (got (c .before .begins .ensures) (c .if1 .taken))
-
-slice-aggregate-begins-2 : tie.Need-slice-aggregate-begins-2
-slice-aggregate-begins-2 c = search needs
-
-begins-requires-2 : tie.Need-begins-requires-2
-begins-requires-2 c κs = search needs
 
 returns-2 : tie.Need-returns-2
 unfolding letterOf
@@ -34,10 +22,10 @@ pub read-letter-spec : {M : Type 1} → statement M
 read-letter-spec =
     tie.close
     (tie.spec
-    slice-aggregate-begins
-    begins-requires
+    (λ c. search needs)
+    (λ c κs. search needs)
     returns
-    slice-aggregate-begins-2
-    begins-requires-2
+    (λ c. search needs)
+    (λ c κs. search needs)
     returns-2
     returns-3)

@@ -1,17 +1,21 @@
 -- `lines::line::read_line` meets its contract: context, service and fields, each in the part that begins with it.
 -- It rests on the definition, and on what is read being within the bytes.
 use Prim.Native.Nat.{_+_, _≤_}
+use mathlib.Core.Bool.{true}
 use mathlib.Core.Path.{_≡_}
 use native.Mathlib.Omega.{arith}
 use lib.ListN.{length, drop}
 use Rattle.text.proofs.Places.{part-of}
-use Rattle.lines.specs.declared.names.Name.the-variants.{Known}
+use Rattle.services.specs.declared.names.Name.the-variants.{Known}
 use Rattle.lines.specs.declared.fields.Fields.the-variants.{Four}
 use Rattle.lines.specs.declared.line.Letter.the-variants.{Is}
-use Rattle.lines.specs.Services.{nameOf}
+use Rattle.services.specs.Names.{nameOf}
+use Rattle.services.specs.Calls.{isService}
+use Rattle.services.proofs.Known.{name-known, call-made, call-there}
 use Rattle.lines.specs.Fields.{fieldsOf}
 use Rattle.lines.specs.Lines.{letterOf, lineOf}
-use Rattle.lines.proofs.Within.{got, after, letter-in, name-in, fields-in}
+use Rattle.text.proofs.Reading.{got}
+use Rattle.lines.proofs.Within.{after, letter-in, name-in, fields-in}
 use borrow.Author.Needs.{needs}
 use Rattle.lines.proofs.line.read_line.Statement.{statement}
 use Rattle.lines.proofs.line.read_line.Tie as tie
@@ -40,14 +44,9 @@ e3 c =
     let w = c .before .before .before .before .before .before .before .before .before .before .before .before .before .before .args in
     got (part-of (fieldsOf (w .wide) (e .number .given .0 .1 .0)) (w .s .now) (2 + e .number .given .0 .1 .1 .0) (c .before .before .read-fields .ensures)) (c .a .given .1)
 
-read-letter-requires : tie.Need-read-letter-requires
-read-letter-requires c κs = search needs
-
-enum-known-context : tie.Need-enum-known-context
-enum-known-context c = search needs
-
-enum-told : tie.Need-enum-told
-enum-told c = search needs
+-- the number of a known name is a service's
+known : (c : tie.After-number) → isService (c .number .given .0 .0) ≡ true
+known c = rw (e2 c) at (name-known (drop 2 (c .before .before .before .before .before .before .before .before .before .args .s .now)))
 
 returns : tie.Need-returns
 unfolding lineOf
@@ -58,18 +57,6 @@ sub-read-name c = in1 (c .before)
 
 part-read-name-start : tie.Need-part-read-name-start
 part-read-name-start c = in1 (c .before)
-
-part-read-name-end : tie.Need-part-read-name-end
-part-read-name-end c = search needs
-
-read-name-requires : tie.Need-read-name-requires
-read-name-requires c κs = search needs
-
-enum-known-number : tie.Need-enum-known-number
-enum-known-number c = search needs
-
-enum-told-2 : tie.Need-enum-told-2
-enum-told-2 c = search needs
 
 returns-2 : tie.Need-returns-2
 unfolding lineOf
@@ -84,18 +71,6 @@ sub-read-fields c = in2 (c .before)
 part-read-fields-start : tie.Need-part-read-fields-start
 part-read-fields-start c = in2 (c .before)
 
-part-read-fields-end : tie.Need-part-read-fields-end
-part-read-fields-end c = search needs
-
-read-fields-requires : tie.Need-read-fields-requires
-read-fields-requires c κs = search needs
-
-enum-known-a : tie.Need-enum-known-a
-enum-known-a c = search needs
-
-enum-told-3 : tie.Need-enum-told-3
-enum-told-3 c = search needs
-
 returns-3 : tie.Need-returns-3
 unfolding lineOf
 returns-3 c =
@@ -103,44 +78,56 @@ returns-3 c =
     let w = c .before .before .before .before .before .before .before .before .before .before .before .before .before .before .args in
     simp (e1 (c .before .before .before .before .before .before .before .before .before .before)) (simp (e2 e) (simp (got (part-of (fieldsOf (w .wide) (e .number .given .0 .1 .0)) (w .s .now) (2 + e .number .given .0 .1 .1 .0) (c .before .before .read-fields .ensures)) (c .enum-told3 .given .1))))
 
-call-of-requires : tie.Need-call-of-requires
-call-of-requires c κs = search needs
+returns-4 : tie.Need-returns-4
+returns-4 c =
+    let x = c .before .before .before .before in
+    let e = x .before .before .before .before .before in
+    absurd
+    (call-there (e .number .given .0 .0) (x .a .given .0 .0) (x .a .given .0 .1 .0) (x .a .given .0 .1 .1 .0) (x .a .given .0 .1 .1 .1 .0) (known e) (c .before .before .call-of .ensures) (c .enum-told4 .given .1))
 
 add-t17 : tie.Need-add-t17
 add-t17 c =
-    let e = c .before .before .before .before .before .before .before in
-    let w = c .before .before .before .before .before .before .before .before .before .before .before .before .before .before .before .before .args in
+    let x = c .before .before .before .before .before in
+    let e = x .before .before .before .before .before in
+    let w = x .before .before .before .before .before .before .before .before .before .before .before .before .before .before .args in
     let s = w .s .now in
     let n = 2 + e .number .given .0 .1 .1 .0 in
-    omega (arith, after s n (c .before .before .a .given .0 .1 .1 .1 .1 .0) (in2 e) (rw (e3 (c .before .before)) at (fields-in (w .wide) (e .number .given .0 .1 .0) (drop n s))), c .before .before .before .before .before .before .before .before .before .before .before .before .before .before .before .before .good)
+    omega (arith, after s n (x .a .given .0 .1 .1 .1 .1 .0) (in2 e) (rw (e3 x) at (fields-in (w .wide) (e .number .given .0 .1 .0) (drop n s))), x .before .before .before .before .before .before .before .before .before .before .before .before .before .before .good)
 
-returns-4 : tie.Need-returns-4
+returns-5 : tie.Need-returns-5
 unfolding lineOf
-returns-4 c = rw (c .call-of .ensures) (simp (e1 (c .before .before .before .before .before .before .before .before .before .before .before .before)) (simp (e2 (c .before .before .before .before .before .before .before)) (simp (e3 (c .before .before)))))
+returns-5 c =
+    let x = c .before .before .before .before .before in
+    let e = x .before .before .before .before .before in
+    rw (call-made (e .number .given .0 .0) (x .a .given .0 .0) (x .a .given .0 .1 .0) (x .a .given .0 .1 .1 .0) (x .a .given .0 .1 .1 .1 .0) (known e) (c .before .before .before .call-of .ensures) (c .before .call .given .1))
+    (simp (e1 (x .before .before .before .before .before .before .before .before .before .before)) (simp (e2 e) (simp (e3 x))))
 
 pub read-line-spec : {M : Type 1} → statement M
 read-line-spec =
     tie.close
     (tie.spec
-    read-letter-requires
-    enum-known-context
-    enum-told
+    (λ c κs. search needs)
+    (λ c. search needs)
+    (λ c. search needs)
     returns
     sub-read-name
     part-read-name-start
-    part-read-name-end
-    read-name-requires
-    enum-known-number
-    enum-told-2
+    (λ c. search needs)
+    (λ c κs. search needs)
+    (λ c. search needs)
+    (λ c. search needs)
     returns-2
     add-at
     sub-read-fields
     part-read-fields-start
-    part-read-fields-end
-    read-fields-requires
-    enum-known-a
-    enum-told-3
+    (λ c. search needs)
+    (λ c κs. search needs)
+    (λ c. search needs)
+    (λ c. search needs)
     returns-3
-    call-of-requires
+    (λ c κs. search needs)
+    (λ c. search needs)
+    (λ c. search needs)
+    returns-4
     add-t17
-    returns-4)
+    returns-5)

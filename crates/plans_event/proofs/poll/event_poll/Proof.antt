@@ -8,40 +8,13 @@ use Rattle.checks.proofs.Laws.{refuses, passes, is-right, and-left, within-top}
 use Rattle.plans_event.proofs.poll.event_poll.Statement.{statement}
 use Rattle.plans_event.proofs.poll.event_poll.Tie as tie
 
-is-flag-requires : tie.Need-is-flag-requires
-is-flag-requires c κs = search needs
-
-checked-requires : tie.Need-checked-requires
-checked-requires c κs = search needs
-
-enum-known-gate : tie.Need-enum-known-gate
-enum-known-gate c = search needs
-
-refused-requires : tie.Need-refused-requires
-refused-requires c κs = search needs
-
 returns : tie.Need-returns
 unfolding eventPoll
 returns c = rw (c .refused .ensures, ← c .before .before .before .before .before .before .is-flag .ensures, refuses _ _ _ (c .before .before .before .before .checked .ensures) (c .before .before .gate .given .1))
 
-enum-told : tie.Need-enum-told
-enum-told c = search needs
-
-is-occupied-requires : tie.Need-is-occupied-requires
-is-occupied-requires c κs = search needs
-
-is-met-requires : tie.Need-is-met-requires
-is-met-requires c κs = search needs
-
-refused-requires-2 : tie.Need-refused-requires-2
-refused-requires-2 c κs = search needs
-
 returns-2 : tie.Need-returns-2
 unfolding eventPoll
 returns-2 c = rw (c .refused2 .ensures, ← c .before .before .before .before .before .before .before .before .is-flag .ensures, passes _ _ _ (c .before .before .before .before .before .before .checked .ensures) (c .before .before .before .before .enum-told .given .1), ← c .before .before .before .is-occupied .ensures, c .before .if1 .taken)
-
-refused-requires-3 : tie.Need-refused-requires-3
-refused-requires-3 c κs = search needs
 
 returns-3 : tie.Need-returns-3
 unfolding eventPoll
@@ -49,9 +22,6 @@ returns-3 c = rw (c .refused3 .ensures, ← c .before .before .before .before .b
 
 cast-f : tie.Need-cast-f
 cast-f c = omega (arith, within-top _ _ _ (c .before .before .before .before .before .before .before .before .is-flag .ensures) (and-left _ _ (is-right _ _ _ (c .before .before .before .before .before .before .checked .ensures) (c .before .before .before .before .enum-told .given .1))))
-
-taken-requires : tie.Need-taken-requires
-taken-requires c κs = search needs
 
 returns-4 : tie.Need-returns-4
 unfolding eventPoll
@@ -61,18 +31,18 @@ pub event-poll-spec : {M : Type 1} → statement M
 event-poll-spec =
     tie.close
     (tie.spec
-    is-flag-requires
-    checked-requires
-    enum-known-gate
-    refused-requires
+    (λ c κs. search needs)
+    (λ c κs. search needs)
+    (λ c. search needs)
+    (λ c κs. search needs)
     returns
-    enum-told
-    is-occupied-requires
-    is-met-requires
-    refused-requires-2
+    (λ c. search needs)
+    (λ c κs. search needs)
+    (λ c κs. search needs)
+    (λ c κs. search needs)
     returns-2
-    refused-requires-3
+    (λ c κs. search needs)
     returns-3
     cast-f
-    taken-requires
+    (λ c κs. search needs)
     returns-4)

@@ -8,50 +8,20 @@ use Rattle.checks.proofs.Laws.{refuses, passes, is-right, within-top}
 use Rattle.plans_task.proofs.life.activate.Statement.{statement}
 use Rattle.plans_task.proofs.life.activate.Tie as tie
 
-is-task-requires : tie.Need-is-task-requires
-is-task-requires c κs = search needs
-
-checked-requires : tie.Need-checked-requires
-checked-requires c κs = search needs
-
-enum-known-gate : tie.Need-enum-known-gate
-enum-known-gate c = search needs
-
-refused-requires : tie.Need-refused-requires
-refused-requires c κs = search needs
-
 returns : tie.Need-returns
 unfolding activate
 returns c = rw (c .refused .ensures, ← c .before .before .before .before .before .before .is-task .ensures, refuses _ _ _ (c .before .before .before .before .checked .ensures) (c .before .before .gate .given .1))
 
-enum-told : tie.Need-enum-told
-enum-told c = search needs
-
 cast-t : tie.Need-cast-t
 cast-t c = omega (arith, within-top _ _ _ (c .before .before .before .before .is-task .ensures) (is-right _ _ _ (c .before .before .checked .ensures) (c .enum-told .given .1)))
-
-activated-requires : tie.Need-activated-requires
-activated-requires c κs = search needs
-
-moves-requires : tie.Need-moves-requires
-moves-requires c κs = search needs
 
 returns-2 : tie.Need-returns-2
 unfolding activate
 returns-2 c = rw (c .moves .ensures, c .before .activated .ensures, ← c .before .before .before .before .before .before .before .before .is-task .ensures, passes _ _ _ (c .before .before .before .before .before .before .checked .ensures) (c .before .before .before .before .enum-told .given .1), eq-eqb _ _ (c .before .before .if1 .taken))
 
-refused-requires-2 : tie.Need-refused-requires-2
-refused-requires-2 c κs = search needs
-
 returns-3 : tie.Need-returns-3
 unfolding activate
 returns-3 c = rw (c .refused2 .ensures, ← c .before .before .before .before .before .before .before .before .before .is-task .ensures, passes _ _ _ (c .before .before .before .before .before .before .before .checked .ensures) (c .before .before .before .before .before .enum-told .given .1), ne-eqb _ _ (c .before .before .before .if1 .left), ne-eqb _ _ (c .before .if2 .taken))
-
-with-activations-requires : tie.Need-with-activations-requires
-with-activations-requires c κs = search needs
-
-moves-requires-2 : tie.Need-moves-requires-2
-moves-requires-2 c κs = search needs
 
 returns-4 : tie.Need-returns-4
 unfolding activate
@@ -61,18 +31,18 @@ pub activate-spec : {M : Type 1} → statement M
 activate-spec =
     tie.close
     (tie.spec
-    is-task-requires
-    checked-requires
-    enum-known-gate
-    refused-requires
+    (λ c κs. search needs)
+    (λ c κs. search needs)
+    (λ c. search needs)
+    (λ c κs. search needs)
     returns
-    enum-told
+    (λ c. search needs)
     cast-t
-    activated-requires
-    moves-requires
+    (λ c κs. search needs)
+    (λ c κs. search needs)
     returns-2
-    refused-requires-2
+    (λ c κs. search needs)
     returns-3
-    with-activations-requires
-    moves-requires-2
+    (λ c κs. search needs)
+    (λ c κs. search needs)
     returns-4)

@@ -7,31 +7,13 @@ use Rattle.checks.proofs.Laws.{refuses, passes}
 use Rattle.plans_task.proofs.life.exit.Statement.{statement}
 use Rattle.plans_task.proofs.life.exit.Tie as tie
 
-checked-requires : tie.Need-checked-requires
-checked-requires c κs = search needs
-
-enum-known-gate : tie.Need-enum-known-gate
-enum-known-gate c = search needs
-
-refused-requires : tie.Need-refused-requires
-refused-requires c κs = search needs
-
 returns : tie.Need-returns
 unfolding exit
 returns c = rw (c .refused .ensures, refuses _ _ _ (c .before .before .before .before .checked .ensures) (c .before .before .gate .given .1))
 
-enum-told : tie.Need-enum-told
-enum-told c = search needs
-
-refused-requires-2 : tie.Need-refused-requires-2
-refused-requires-2 c κs = search needs
-
 returns-2 : tie.Need-returns-2
 unfolding exit
 returns-2 c = rw (c .refused2 .ensures, passes _ _ _ (c .before .before .before .before .checked .ensures) (c .before .before .enum-told .given .1), eq-eqb _ _ (c .before .if1 .taken))
-
-does-requires : tie.Need-does-requires
-does-requires c κs = search needs
 
 returns-3 : tie.Need-returns-3
 unfolding exit
@@ -41,12 +23,12 @@ pub exit-spec : {M : Type 1} → statement M
 exit-spec =
     tie.close
     (tie.spec
-    checked-requires
-    enum-known-gate
-    refused-requires
+    (λ c κs. search needs)
+    (λ c. search needs)
+    (λ c κs. search needs)
     returns
-    enum-told
-    refused-requires-2
+    (λ c. search needs)
+    (λ c κs. search needs)
     returns-2
-    does-requires
+    (λ c κs. search needs)
     returns-3)

@@ -8,44 +8,20 @@ use Rattle.checks.proofs.Laws.{refuses, passes, is-right, within-top}
 use Rattle.plans_task.proofs.life.terminate.Statement.{statement}
 use Rattle.plans_task.proofs.life.terminate.Tie as tie
 
-is-task-requires : tie.Need-is-task-requires
-is-task-requires c κs = search needs
-
-checked-requires : tie.Need-checked-requires
-checked-requires c κs = search needs
-
-enum-known-gate : tie.Need-enum-known-gate
-enum-known-gate c = search needs
-
-refused-requires : tie.Need-refused-requires
-refused-requires c κs = search needs
-
 returns : tie.Need-returns
 unfolding terminate
 returns c = rw (c .refused .ensures, ← c .before .before .before .before .before .before .is-task .ensures, refuses _ _ _ (c .before .before .before .before .checked .ensures) (c .before .before .gate .given .1))
 
-enum-told : tie.Need-enum-told
-enum-told c = search needs
-
 cast-t : tie.Need-cast-t
 cast-t c = omega (arith, within-top _ _ _ (c .before .before .before .before .is-task .ensures) (is-right _ _ _ (c .before .before .checked .ensures) (c .enum-told .given .1)))
-
-refused-requires-2 : tie.Need-refused-requires-2
-refused-requires-2 c κs = search needs
 
 returns-2 : tie.Need-returns-2
 unfolding terminate
 returns-2 c = rw (c .refused2 .ensures, ← c .before .before .before .before .before .before .is-task .ensures, passes _ _ _ (c .before .before .before .before .checked .ensures) (c .before .before .enum-told .given .1), eq-eqb _ _ (c .before .if1 .taken))
 
-refused-requires-3 : tie.Need-refused-requires-3
-refused-requires-3 c κs = search needs
-
 returns-3 : tie.Need-returns-3
 unfolding terminate
 returns-3 c = rw (c .refused3 .ensures, ← c .before .before .before .before .before .before .before .before .is-task .ensures, passes _ _ _ (c .before .before .before .before .before .before .checked .ensures) (c .before .before .before .before .enum-told .given .1), ne-eqb _ _ (c .before .before .before .if1 .left), eq-eqb _ _ (c .before .if2 .taken))
-
-does-requires : tie.Need-does-requires
-does-requires c κs = search needs
 
 returns-4 : tie.Need-returns-4
 unfolding terminate
@@ -55,16 +31,16 @@ pub terminate-spec : {M : Type 1} → statement M
 terminate-spec =
     tie.close
     (tie.spec
-    is-task-requires
-    checked-requires
-    enum-known-gate
-    refused-requires
+    (λ c κs. search needs)
+    (λ c κs. search needs)
+    (λ c. search needs)
+    (λ c κs. search needs)
     returns
-    enum-told
+    (λ c. search needs)
     cast-t
-    refused-requires-2
+    (λ c κs. search needs)
     returns-2
-    refused-requires-3
+    (λ c κs. search needs)
     returns-3
-    does-requires
+    (λ c κs. search needs)
     returns-4)

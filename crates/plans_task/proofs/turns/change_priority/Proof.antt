@@ -8,27 +8,9 @@ use Rattle.checks.proofs.Laws.{refuses, passes, is-right, and-left, and-right, 
 use Rattle.plans_task.proofs.turns.change_priority.Statement.{statement}
 use Rattle.plans_task.proofs.turns.change_priority.Tie as tie
 
-is-task-requires : tie.Need-is-task-requires
-is-task-requires c κs = search needs
-
-checked-requires : tie.Need-checked-requires
-checked-requires c κs = search needs
-
-enum-known-gate : tie.Need-enum-known-gate
-enum-known-gate c = search needs
-
-refused-requires : tie.Need-refused-requires
-refused-requires c κs = search needs
-
 returns : tie.Need-returns
 unfolding changePriority
 returns c = rw (c .refused .ensures, ← c .before .before .before .before .before .before .is-task .ensures, refuses _ _ _ (c .before .before .before .before .checked .ensures) (c .before .before .gate .given .1))
-
-enum-told : tie.Need-enum-told
-enum-told c = search needs
-
-refused-requires-2 : tie.Need-refused-requires-2
-refused-requires-2 c κs = search needs
 
 returns-2 : tie.Need-returns-2
 unfolding changePriority
@@ -40,21 +22,9 @@ cast-t c = omega (arith, within-top _ _ _ (c .before .before .before .before .be
 cast-p : tie.Need-cast-p
 cast-p c = omega (arith, leb-true (c .before .before .before .before .before .before .before .args .priority) 30 (and-right (c .before .before .before .before .before .before .is-task .result) _ (is-right _ _ _ (c .before .before .before .before .checked .ensures) (c .before .before .enum-told .given .1))))
 
-wanted-requires : tie.Need-wanted-requires
-wanted-requires c κs = search needs
-
-does-requires : tie.Need-does-requires
-does-requires c κs = search needs
-
 returns-3 : tie.Need-returns-3
 unfolding changePriority
 returns-3 c = rw (c .does .ensures, ← c .before .before .before .before .before .before .before .before .before .before .is-task .ensures, passes _ _ _ (c .before .before .before .before .before .before .before .before .checked .ensures) (c .before .before .before .before .before .before .enum-told .given .1), ne-eqb _ _ (c .before .before .before .before .if1 .left), ← c .before .before .before .wanted .ensures, eq-eqb _ _ (c .before .if2 .taken))
-
-with-priority-requires : tie.Need-with-priority-requires
-with-priority-requires c κs = search needs
-
-moves-requires : tie.Need-moves-requires
-moves-requires c κs = search needs
 
 returns-4 : tie.Need-returns-4
 unfolding changePriority
@@ -64,19 +34,19 @@ pub change-priority-spec : {M : Type 1} → statement M
 change-priority-spec =
     tie.close
     (tie.spec
-    is-task-requires
-    checked-requires
-    enum-known-gate
-    refused-requires
+    (λ c κs. search needs)
+    (λ c κs. search needs)
+    (λ c. search needs)
+    (λ c κs. search needs)
     returns
-    enum-told
-    refused-requires-2
+    (λ c. search needs)
+    (λ c κs. search needs)
     returns-2
     cast-t
     cast-p
-    wanted-requires
-    does-requires
+    (λ c κs. search needs)
+    (λ c κs. search needs)
     returns-3
-    with-priority-requires
-    moves-requires
+    (λ c κs. search needs)
+    (λ c κs. search needs)
     returns-4)

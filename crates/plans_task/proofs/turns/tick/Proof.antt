@@ -6,24 +6,9 @@ use Rattle.checks.proofs.Laws.{refuses, passes}
 use Rattle.plans_task.proofs.turns.tick.Statement.{statement}
 use Rattle.plans_task.proofs.turns.tick.Tie as tie
 
-checked-requires : tie.Need-checked-requires
-checked-requires c κs = search needs
-
-enum-known-gate : tie.Need-enum-known-gate
-enum-known-gate c = search needs
-
-refused-requires : tie.Need-refused-requires
-refused-requires c κs = search needs
-
 returns : tie.Need-returns
 unfolding tick
 returns c = rw (c .refused .ensures, refuses _ _ _ (c .before .before .before .before .checked .ensures) (c .before .before .gate .given .1))
-
-enum-told : tie.Need-enum-told
-enum-told c = search needs
-
-does-requires : tie.Need-does-requires
-does-requires c κs = search needs
 
 returns-2 : tie.Need-returns-2
 unfolding tick
@@ -33,10 +18,10 @@ pub tick-spec : {M : Type 1} → statement M
 tick-spec =
     tie.close
     (tie.spec
-    checked-requires
-    enum-known-gate
-    refused-requires
+    (λ c κs. search needs)
+    (λ c. search needs)
+    (λ c κs. search needs)
     returns
-    enum-told
-    does-requires
+    (λ c. search needs)
+    (λ c κs. search needs)
     returns-2)

@@ -7,50 +7,17 @@ use Rattle.checks.proofs.Laws.{refuses, passes}
 use Rattle.plans_task.proofs.waits.sleep.Statement.{statement}
 use Rattle.plans_task.proofs.waits.sleep.Tie as tie
 
-is-timeout-requires : tie.Need-is-timeout-requires
-is-timeout-requires c κs = search needs
-
-checked-requires : tie.Need-checked-requires
-checked-requires c κs = search needs
-
-enum-known-gate : tie.Need-enum-known-gate
-enum-known-gate c = search needs
-
-refused-requires : tie.Need-refused-requires
-refused-requires c κs = search needs
-
 returns : tie.Need-returns
 unfolding sleep
 returns c = rw (c .refused .ensures, ← c .before .before .before .before .before .is-timeout .ensures, refuses _ _ _ (c .before .before .before .before .checked .ensures) (c .before .before .gate .given .1))
-
-enum-told : tie.Need-enum-told
-enum-told c = search needs
-
-refused-requires-2 : tie.Need-refused-requires-2
-refused-requires-2 c κs = search needs
 
 returns-2 : tie.Need-returns-2
 unfolding sleep
 returns-2 c = rw (c .refused2 .ensures, ← c .before .before .before .before .before .is-timeout .ensures, passes _ _ _ (c .before .before .before .before .checked .ensures) (c .before .before .enum-told .given .1), eq-eqb _ _ (c .before .if1 .taken))
 
-asleep-requires : tie.Need-asleep-requires
-asleep-requires c κs = search needs
-
-waiting-requires : tie.Need-waiting-requires
-waiting-requires c κs = search needs
-
-pending-requires : tie.Need-pending-requires
-pending-requires c κs = search needs
-
 returns-3 : tie.Need-returns-3
 unfolding sleep
 returns-3 c = rw (c .pending .ensures, c .before .waiting .ensures, c .before .before .asleep .ensures, ← c .before .before .before .before .before .before .before .before .before .is-timeout .ensures, passes _ _ _ (c .before .before .before .before .before .before .before .before .checked .ensures) (c .before .before .before .before .before .before .enum-told .given .1), ne-eqb _ _ (c .before .before .before .before .before .if1 .left), eq-eqb _ _ (c .before .before .before .if2 .taken))
-
-with-wakeups-requires : tie.Need-with-wakeups-requires
-with-wakeups-requires c κs = search needs
-
-moves-requires : tie.Need-moves-requires
-moves-requires c κs = search needs
 
 returns-4 : tie.Need-returns-4
 unfolding sleep
@@ -60,18 +27,18 @@ pub sleep-spec : {M : Type 1} → statement M
 sleep-spec =
     tie.close
     (tie.spec
-    is-timeout-requires
-    checked-requires
-    enum-known-gate
-    refused-requires
+    (λ c κs. search needs)
+    (λ c κs. search needs)
+    (λ c. search needs)
+    (λ c κs. search needs)
     returns
-    enum-told
-    refused-requires-2
+    (λ c. search needs)
+    (λ c κs. search needs)
     returns-2
-    asleep-requires
-    waiting-requires
-    pending-requires
+    (λ c κs. search needs)
+    (λ c κs. search needs)
+    (λ c κs. search needs)
     returns-3
-    with-wakeups-requires
-    moves-requires
+    (λ c κs. search needs)
+    (λ c κs. search needs)
     returns-4)

@@ -1,0 +1,133 @@
+-- The names of services: a few bytes tell which row of the table a name can be.
+-- It rests on tests that antt computes over all rows, and on the laws of `begins`.
+use Prim.Native.Nat.{ℕ, zero, suc, _+_, _<_, _≤_}
+use mathlib.Core.Path.{_≡_, refl, sym, ap, _∙_}
+use mathlib.Core.Bool.{Bool, true, false, cond, _&&_, false≢true}
+use mathlib.Core.List.{List, [], _∷_}
+use native.Mathlib.Omega.{arith}
+use lib.Dec.{T as So, leb, eqb, leb→le}
+use lib.ListN.{length, getD}
+use borrow.Author.Tests.{eq-eqb, ne-eqb, eqb-true}
+use Rattle.text.specs.Bytes.{begins}
+use Rattle.text.proofs.Begins.{begins-at}
+use Rattle.model.specs.Services.{Service, tasks, system, semaphores, events, services}
+use Rattle.services.specs.declared.names.Name.{Name}
+use Rattle.services.specs.declared.names.Name.the-variants.{Known, Unknown}
+use Rattle.services.specs.Names.{label, nameIn, nameOf}
+use Rattle.services.proofs.Numbers.{Rest, has, none-is, both-left, both-right}
+
+-- what can be told from the first 13 bytes: of bytes that begin with a text, what the text tells
+abbrev Early : (List ℕ → ℕ) → Type 0
+Early f = (s t : List ℕ) → begins s t ≡ true → 13 ≤ length t → f t ≡ f s
+
+early-byte : (i : ℕ) → i < 13 → Early (λ s. getD s i 0)
+early-byte i h s t e g = sym (begins-at s t e i (omega arith))
+
+-- every name, with its comma, has 13
+unfoldable pub long : List Service → Bool
+long [] = true
+long (x ∷ xs) = leb 13 (length (label x)) && long xs
+
+-- the first of the services whose label has the key h and begins s, from the number k on
+unfoldable pub keyed : (List ℕ → ℕ) → List Service → ℕ → ℕ → List ℕ → Name
+keyed f [] k h s = Unknown
+keyed f (x ∷ xs) k h s =
+    let more = keyed f xs (k + 1) h s in
+    cond (eqb (f (label x)) h) (cond (begins s (label x)) (Known k (length (x .fields)) (length (label x))) more) more
+
+-- none of another key is looked at in vain
+by-key : (f : List ℕ → ℕ) → Early f → (xs : List Service) → So (long xs) → (k : ℕ) (s : List ℕ) → keyed f xs k (f s) s ≡ nameIn xs k s
+unfolding keyed nameIn long
+by-key f early [] t k s = refl
+by-key f early (x ∷ xs) t k s =
+    go (begins s (label x)) refl (eqb (f (label x)) (f s)) refl (by-key f early xs (both-right (leb 13 (length (label x))) (long xs) t) (k + 1) s)
+  where
+    here : Name
+    here = Known k (length (x .fields)) (length (label x))
+
+    enough : 13 ≤ length (label x)
+    enough = leb→le 13 (length (label x)) (both-left (leb 13 (length (label x))) (long xs) t)
+
+    go : (b : Bool) → begins s (label x) ≡ b → (d : Bool) → eqb (f (label x)) (f s) ≡ d → keyed f xs (k + 1) (f s) s ≡ nameIn xs (k + 1) s
+        → cond d (cond b here (keyed f xs (k + 1) (f s) s)) (keyed f xs (k + 1) (f s) s) ≡ cond b here (nameIn xs (k + 1) s)
+    go true p true q ih = refl
+    go true p false q ih = absurd (false≢true (sym q ∙ eq-eqb (f (label x)) (f s) (early s (label x) p enough)))
+    go false p true q ih = ih
+    go false p false q ih = ih
+
+-- r is what the rows of the key m give, and m is what was read of s
+at-key : {r : Name} (f : List ℕ → ℕ) → Early f → (xs : List Service) → So (long xs) → (k : ℕ) (s : List ℕ) {m : ℕ} → m ≡ f s → r ≡ keyed f xs k m s → r ≡ nameIn xs k s
+at-key f early xs t k s e p = p ∙ ap (λ (h : ℕ). keyed f xs k h s) e ∙ by-key f early xs t k s
+
+-- ---- the keys that the reader goes by: a family's by one byte, a task's or a flag's service by two, a semaphore's by one
+
+abbrev pub familyKey : List ℕ → ℕ
+familyKey s = getD s 4 0
+
+abbrev pub taskKey : List ℕ → ℕ
+taskKey s = getD s 8 0 + getD s 11 0
+
+abbrev pub semaphoreKey : List ℕ → ℕ
+semaphoreKey s = getD s 8 0
+
+abbrev pub eventKey : List ℕ → ℕ
+eventKey s = getD s 10 0 + getD s 12 0
+
+early-bytes : (i j : ℕ) → i < 13 → j < 13 → Early (λ s. getD s i 0 + getD s j 0)
+early-bytes i j h k s t e g = rw (early-byte i h s t e g, early-byte j k s t e g)
+
+pub at-family : {r : Name} (s : List ℕ) {a m : ℕ} → a ≡ getD s 4 0 → a ≡ m → r ≡ keyed familyKey services 1 m s → r ≡ nameOf s
+unfolding nameOf services tasks system semaphores events long label
+at-family s p e q = at-key familyKey (early-byte 4 (omega arith)) services tt 1 s (sym e ∙ p) q
+
+pub at-task : {r : Name} (s : List ℕ) {a b m : ℕ} → a ≡ getD s 8 0 → b ≡ getD s 11 0 → a + b ≡ m → r ≡ keyed taskKey tasks 1 m s → r ≡ nameIn tasks 1 s
+unfolding tasks long label
+at-task s p o e q = at-key taskKey (early-bytes 8 11 (omega arith) (omega arith)) tasks tt 1 s (sym e ∙ (cc)) q
+
+pub at-semaphore : {r : Name} (s : List ℕ) {a m : ℕ} → a ≡ getD s 8 0 → a ≡ m → r ≡ keyed semaphoreKey semaphores 17 m s → r ≡ nameIn semaphores 17 s
+unfolding semaphores long label
+at-semaphore s p e q = at-key semaphoreKey (early-byte 8 (omega arith)) semaphores tt 17 s (sym e ∙ p) q
+
+pub at-event : {r : Name} (s : List ℕ) {a b m : ℕ} → a ≡ getD s 10 0 → b ≡ getD s 12 0 → a + b ≡ m → r ≡ keyed eventKey events 24 m s → r ≡ nameIn events 24 s
+unfolding events long label
+at-event s p o e q = at-key eventKey (early-bytes 10 12 (omega arith) (omega arith)) events tt 24 s (sym e ∙ (cc)) q
+
+-- every row's key is one of those
+covered : (List ℕ → ℕ) → List ℕ → List Service → Bool
+covered f ks [] = true
+covered f ks (x ∷ xs) = has ks (f (label x)) && covered f ks xs
+
+no-key : (f : List ℕ → ℕ) (ks : List ℕ) (xs : List Service) → So (covered f ks xs) → (k h : ℕ) (s : List ℕ) → Rest ks h Unit → Unknown ≡ keyed f xs k h s
+unfolding keyed covered
+no-key f ks [] t k h s r = refl
+no-key f ks (x ∷ xs) t k h s r =
+    let n = none-is ks h Unit r (f (label x)) (both-left (has ks (f (label x))) (covered f ks xs) t) in
+    rw (ne-eqb (f (label x)) h (λ q. n (sym q))) (no-key f ks xs (both-right (has ks (f (label x))) (covered f ks xs) t) (k + 1) h s r)
+
+abbrev pub familyKeys : List ℕ
+familyKeys = 97 ∷ 121 ∷ 105 ∷ 101 ∷ 118 ∷ []
+
+abbrev pub taskKeys : List ℕ
+taskKeys = 196 ∷ 201 ∷ 202 ∷ 221 ∷ 217 ∷ 225 ∷ 227 ∷ 231 ∷ 216 ∷ 220 ∷ 212 ∷ 215 ∷ 213 ∷ 209 ∷ []
+
+abbrev pub semaphoreKeys : List ℕ
+semaphoreKeys = 114 ∷ 101 ∷ 105 ∷ 115 ∷ 99 ∷ 111 ∷ 112 ∷ []
+
+abbrev pub eventKeys : List ℕ
+eventKeys = 211 ∷ 202 ∷ 145 ∷ 231 ∷ 205 ∷ 200 ∷ 213 ∷ 224 ∷ []
+
+pub no-family : (s : List ℕ) (h : ℕ) → h ≡ getD s 4 0 → Rest familyKeys h Unit → Unknown ≡ nameOf s
+unfolding services tasks system semaphores events label has covered
+no-family s h p r = at-family s p refl (no-key familyKey familyKeys services tt 1 h s r)
+
+pub no-task : (s : List ℕ) (a b : ℕ) → a ≡ getD s 8 0 → b ≡ getD s 11 0 → Rest taskKeys (a + b) Unit → Unknown ≡ nameIn tasks 1 s
+unfolding tasks label has covered
+no-task s a b p o r = at-task s p o refl (no-key taskKey taskKeys tasks tt 1 (a + b) s r)
+
+pub no-semaphore : (s : List ℕ) (h : ℕ) → h ≡ getD s 8 0 → Rest semaphoreKeys h Unit → Unknown ≡ nameIn semaphores 17 s
+unfolding semaphores label has covered
+no-semaphore s h p r = at-semaphore s p refl (no-key semaphoreKey semaphoreKeys semaphores tt 17 h s r)
+
+pub no-event : (s : List ℕ) (a b : ℕ) → a ≡ getD s 10 0 → b ≡ getD s 12 0 → Rest eventKeys (a + b) Unit → Unknown ≡ nameIn events 24 s
+unfolding events label has covered
+no-event s a b p o r = at-event s p o refl (no-key eventKey eventKeys events tt 24 (a + b) s r)

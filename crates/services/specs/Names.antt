@@ -1,0 +1,26 @@
+-- The service whose name begins a part of a file, by the table of services.
+-- It rests on that table, and on what it is for bytes to begin with others.
+use Prim.Native.Nat.{ℕ, _+_}
+use mathlib.Core.Bool.{cond}
+use mathlib.Core.List.{List, [], _∷_, _++_}
+use lib.ListN.{length}
+use Rattle.text.specs.Bytes.{bytes, begins}
+use Rattle.model.specs.Services.{Service, services}
+use Rattle.services.specs.declared.names.Name.{Name}
+use Rattle.services.specs.declared.names.Name.the-variants.{Known, Unknown}
+
+-- a name's bytes with the comma after it
+unfoldable pub label : Service → List ℕ
+label x = bytes (x .name) ++ bytes ","
+
+-- the service of the number k, which takes n numbers, if its label t begins s
+unfoldable pub labelled : List ℕ → List ℕ → ℕ → ℕ → Name
+labelled s t k n = cond (begins s t) (Known k n (length t)) Unknown
+
+-- the first of the services from the number k on whose label begins s
+unfoldable pub nameIn : List Service → ℕ → List ℕ → Name
+nameIn [] k s = Unknown
+nameIn (x ∷ xs) k s = cond (begins s (label x)) (Known k (length (x .fields)) (length (label x))) (nameIn xs (k + 1) s)
+
+unfoldable pub nameOf : List ℕ → Name
+nameOf s = nameIn services 1 s

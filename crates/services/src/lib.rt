@@ -1,0 +1,4 @@
+// The table of services in code: a service by its name, the call that its number and its fields make, and what its fields are.
+// Each function is a definition of specs/ over the table of model/specs/Services, for every value; the crate rests on text and model.
+pub mod calls;
+pub mod names;
