@@ -14,7 +14,7 @@ use lines::line::Line;
 use lines::line::read_header;
 use lines::line::read_line;
 use model::Code;
-use text::decimals::put_number;
+use text::decimals::put_decimal;
 use text::decimals::width;
 use text::words::put_text;
 
@@ -70,9 +70,9 @@ fn put_slot(buf: &mut [u8], at: usize, v: u8) -> usize
 {
     if v < 12 {
         let next = put_text(buf, at, b"-");
-        return put_number(buf, next, (12 - v) as u32);
+        return put_decimal(buf, next, (12 - v) as u32);
     }
-    put_number(buf, at, (v - 12) as u32)
+    put_decimal(buf, at, (v - 12) as u32)
 }
 
 // ---- one row of the answer
@@ -86,11 +86,11 @@ fn put_row(buf: &mut [u8], at: usize, n: u32, v: u8, running: u8) -> usize
     requires { ⌜ at + length (keptText n v running) ≤ length (now buf) ⌝ }
     ensures { λ r. ⌜ (r ≡ at + length (keptText n v running)) × (now (buf .exit) ≡ sets (now (buf .entry)) at (keptText n v running)) ⌝ }
 {
-    let a = put_number(buf, at, n);
+    let a = put_decimal(buf, at, n);
     let b = put_text(buf, a, b",");
     let c = put_slot(buf, b, v);
     let d = put_text(buf, c, b",");
-    let e = put_number(buf, d, running as u32);
+    let e = put_decimal(buf, d, running as u32);
     put_text(buf, e, b"\r\n")
 }
 

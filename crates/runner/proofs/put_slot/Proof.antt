@@ -17,14 +17,14 @@ slice-aggregate-put-text c = search needs
 put-text-requires : tie.Need-put-text-requires
 put-text-requires c κs = search needs
 
-sub-put-number : tie.Need-sub-put-number
-sub-put-number c = search needs
+sub-put-decimal : tie.Need-sub-put-decimal
+sub-put-decimal c = search needs
 
-cast-put-number : tie.Need-cast-put-number
-cast-put-number c = search needs
+cast-put-decimal : tie.Need-cast-put-decimal
+cast-put-decimal c = search needs
 
-put-number-requires : tie.Need-put-number-requires
-put-number-requires c κs = search needs
+put-decimal-requires : tie.Need-put-decimal-requires
+put-decimal-requires c κs = search needs
 
 same-length : tie.Need-same-length
 same-length c = search needs
@@ -33,14 +33,14 @@ returns : tie.Need-returns
 unfolding slotText
 returns c = let h : c .before .before .before .before .before .before .before .before .before .before .before .args .at + length (bytes "-" ++ decimal (12 - c .before .before .before .before .before .before .before .before .before .before .before .args .v)) ≤ length (c .before .before .before .before .before .before .before .before .before .before .before .args .buf .now) = rw (lt-ltb _ _ (c .before .before .before .before .before .before .before .before .before .if1 .taken)) at (c .before .before .before .before .before .before .before .before .before .before .before .pre) in
     let p = law.then _ _ (bytes "-") (decimal (12 - c .before .before .before .before .before .before .before .before .before .before .before .args .v)) _ _ _ _ h (c .before .before .before .before .before .before .put-text .ensures .0) (c .before .before .before .before .before .before .put-text .ensures .1)
-    (λ g. law.placed _ _ _ _ _ g (c .before .before .put-number .ensures .0) (c .before .before .put-number .ensures .1)) in
+    (λ g. law.placed _ _ _ _ _ g (c .before .before .put-decimal .ensures .0) (c .before .before .put-decimal .ensures .1)) in
     rw (lt-ltb _ _ (c .before .before .before .before .before .before .before .before .before .if1 .taken)) (p .place, p .stores)
 
-cast-put-number-2 : tie.Need-cast-put-number-2
-cast-put-number-2 c = search needs
+cast-put-decimal-2 : tie.Need-cast-put-decimal-2
+cast-put-decimal-2 c = search needs
 
-put-number-requires-2 : tie.Need-put-number-requires-2
-put-number-requires-2 c κs = search needs
+put-decimal-requires-2 : tie.Need-put-decimal-requires-2
+put-decimal-requires-2 c κs = search needs
 
 same-length-2 : tie.Need-same-length-2
 same-length-2 c = search needs
@@ -48,7 +48,7 @@ same-length-2 c = search needs
 returns-2 : tie.Need-returns-2
 unfolding slotText
 returns-2 c = let h : c .before .before .before .before .before .before .args .at + length (decimal (c .before .before .before .before .before .before .args .v - 12)) ≤ length (c .before .before .before .before .before .before .args .buf .now) = rw (le-ltb _ _ (c .before .before .before .before .if1 .left)) at (c .before .before .before .before .before .before .pre) in
-    let p = law.placed _ _ _ _ _ h (c .before .before .put-number2 .ensures .0) (c .before .before .put-number2 .ensures .1) in
+    let p = law.placed _ _ _ _ _ h (c .before .before .put-decimal2 .ensures .0) (c .before .before .put-decimal2 .ensures .1) in
     rw (le-ltb _ _ (c .before .before .before .before .if1 .left)) (p .place, p .stores)
 
 pub put-slot-spec : {M : Type 1} → statement M
@@ -57,12 +57,12 @@ put-slot-spec =
     (tie.spec
     slice-aggregate-put-text
     put-text-requires
-    sub-put-number
-    cast-put-number
-    put-number-requires
+    sub-put-decimal
+    cast-put-decimal
+    put-decimal-requires
     same-length
     returns
-    cast-put-number-2
-    put-number-requires-2
+    cast-put-decimal-2
+    put-decimal-requires-2
     same-length-2
     returns-2)
