@@ -5,6 +5,7 @@ use crate::kernel::{self, Asked, Kernel, SEMAPHORES, UNSOUND};
 use crate::queue::{self, PLACES};
 use crate::services::Call;
 use crate::sound::is_sound;
+use std::mem::{offset_of, size_of};
 
 pub const TASK_PLACES: usize = 25;
 pub const LEVEL_PLACES: usize = 31;
@@ -65,8 +66,8 @@ pub struct State {
     pub numbers: Numbers,
 }
 
-const _: () = assert!(std::mem::size_of::<Task>() == 24);
-const _: () = assert!(std::mem::size_of::<State>() == 2276);
+const _: () = assert!(size_of::<Task>() == 24 && offset_of!(Task, wait) == 8 && offset_of!(Task, handed) == 20);
+const _: () = assert!(size_of::<State>() == 2276 && offset_of!(State, numbers) == 1848);
 
 #[repr(C)]
 #[derive(Clone, Copy, PartialEq, Eq, Debug)]
