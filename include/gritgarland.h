@@ -3,6 +3,7 @@
 #ifndef GRITGARLAND_H
 #define GRITGARLAND_H
 
+#include "gritgarland_state.h"
 #include <stdbool.h>
 #include <stddef.h>
 #include <stdint.h>
@@ -10,46 +11,6 @@
 #ifdef __cplusplus
 extern "C" {
 #endif
-
-/* ---- the state: plain unsigned numbers; place 0 of every table is unused. All zeros is the fresh state. */
-enum {
-    GRITGARLAND_TASKS = 24,
-    GRITGARLAND_LEVELS = 30,
-    GRITGARLAND_SEMAPHORES = 12,
-    GRITGARLAND_FLAGS = 8,
-    GRITGARLAND_PLACES = 24 /* of each queue: task numbers, first to last, then zeros */
-};
-
-#define GRITGARLAND_ENDLESS UINT32_C(4294967295) /* the timeout that never ends */
-
-typedef struct gritgarland_task {
-    uint8_t base;        /* the priority at creation; 0: not created */
-    uint8_t priority;    /* the current one */
-    uint8_t active;      /* 0: dormant, or not created */
-    uint8_t suspended;   /* 1: suspended */
-    uint8_t wait;        /* 0 for nothing, 1 a sleep, 2 a semaphore, 3 an event flag */
-    uint8_t object;      /* the semaphore or flag that is waited on, else 0 */
-    uint8_t wakeups;     /* wakeup count */
-    uint8_t activations; /* activation count */
-    uint8_t code;        /* wait code without its sign: 0, 4, 10 or 11 */
-    uint8_t mode;        /* of a flag wait: 0 any bit of its pattern, 1 all; else 0 */
-    uint32_t remaining;  /* ticks until the timeout */
-    uint32_t pattern;    /* the bits that a flag wait asks for, else 0 */
-    uint32_t handed;     /* the bits that the last wait handed over; 0 during any wait */
-} gritgarland_task;
-
-typedef struct gritgarland_state {
-    gritgarland_task tasks[25];
-    uint8_t levels[31][24]; /* the runnable tasks of each level */
-    uint8_t waits[21][24];  /* the tasks that wait: rows 1 to 12 on each semaphore, rows 13 to 20 on flags 1 to 8 */
-    uint16_t slices[31];
-    uint16_t charges[31];
-    uint16_t counts[13];
-    uint16_t maxima[13];   /* 0: the semaphore is not created */
-    uint8_t attributes[9]; /* a GRITGARLAND_ATTR_ number plus 1; 0: the flag is not created */
-    uint32_t bits[9];
-    uint32_t time;
-} gritgarland_state;
 
 typedef struct gritgarland_reply {
     int32_t code;     /* a GRITGARLAND_ code below */

@@ -62,20 +62,20 @@ static void set_up(void)
     answers(gritgarland_task_create(&box, GRITGARLAND_T, LIBRARY, SHARED_LEVEL, 1), GRITGARLAND_NO_ERR, SCREEN, "the library task");
     answers(gritgarland_task_create(&box, GRITGARLAND_T, READING, 3, 1), GRITGARLAND_NO_ERR, READING, "the reading task");
     answers(gritgarland_task_create(&box, GRITGARLAND_T, RELAY, 2, 1), GRITGARLAND_NO_ERR, RELAY, "the relay task");
-    expect(box.levels[2][0] == RELAY && box.levels[3][0] == READING, "relay and reading are ready");
-    expect(box.levels[10][0] == SCREEN && box.levels[10][1] == LIBRARY && box.levels[10][2] == 0, "screen and library are ready");
+    expect(box.levels[2].places[0] == RELAY && box.levels[3].places[0] == READING, "relay and reading are ready");
+    expect(box.levels[10].places[0] == SCREEN && box.levels[10].places[1] == LIBRARY && box.levels[10].places[2] == 0, "screen and library are ready");
 }
 
 static void waits_and_turns(void)
 {
     answers(waits_for(START_KEY), GRITGARLAND_PENDING, READING, "the relay waits for the start key");
     answers(waits_for(SENSOR), GRITGARLAND_PENDING, SCREEN, "the reading waits for the sensor");
-    expect(box.waits[START_KEY][0] == RELAY && box.tasks[RELAY].remaining == GRITGARLAND_ENDLESS, "an endless wait");
+    expect(box.waits[START_KEY].places[0] == RELAY && box.tasks[RELAY].wait.remaining == GRITGARLAND_ENDLESS, "an endless wait");
     ticks(SLICE - 1, SCREEN, "the screen's slice");
     ticks(1, LIBRARY, "the library's turn comes with the fifth tick");
     ticks(SLICE - 1, LIBRARY, "the library's slice");
     ticks(1, SCREEN, "and the screen's again");
-    expect(box.time == 2 * SLICE, "ten ticks");
+    expect(box.numbers.time == 2 * SLICE, "ten ticks");
 }
 
 static void keys_and_sensors(void)
@@ -86,11 +86,11 @@ static void keys_and_sensors(void)
     answers(comes(START_KEY), GRITGARLAND_NO_ERR, RELAY, "a key goes before the reading");
     answers(comes(START_KEY), GRITGARLAND_NO_ERR, RELAY, "a second press is kept");
     answers(comes(START_KEY), GRITGARLAND_OVERFLOW, RELAY, "a third is refused");
-    expect(box.counts[START_KEY] == 1, "one press is kept");
+    expect(box.numbers.counts[START_KEY] == 1, "one press is kept");
     answers(waits_for(START_KEY), GRITGARLAND_NO_ERR, RELAY, "the relay has the second press at once");
     answers(waits_for(START_KEY), GRITGARLAND_PENDING, READING, "and waits for the next");
     answers(waits_for(SENSOR), GRITGARLAND_PENDING, SCREEN, "the screen is first of its level still");
-    expect(box.charges[SHARED_LEVEL] == 2, "and has its two ticks");
+    expect(box.numbers.charges[SHARED_LEVEL] == 2, "and has its two ticks");
     ticks(SLICE - 3, SCREEN, "the rest of the screen's slice");
     ticks(1, LIBRARY, "the library's turn");
 }
@@ -123,14 +123,14 @@ static void refusals(void)
 /* The charge never stands at the slice; a state in which it does is answered, but not altered. */
 static void unsound(void)
 {
-    uint16_t charge = box.charges[SHARED_LEVEL];
-    box.charges[SHARED_LEVEL] = SLICE;
+    uint32_t charge = box.numbers.charges[SHARED_LEVEL];
+    box.numbers.charges[SHARED_LEVEL] = SLICE;
     before = box;
     answers(tick(), GRITGARLAND_UNSOUND, NOBODY, "a tick on an unsound state");
     answers(comes(SENSOR), GRITGARLAND_UNSOUND, NOBODY, "a sensor on an unsound state");
     answers(waits_for(PAGE_KEY), GRITGARLAND_UNSOUND, NOBODY, "a wait on an unsound state");
     answers(gritgarland_call_in_place(&box, 2, 33, 0, 0, 0, 0), GRITGARLAND_UNSOUND, NOBODY, "before unknown numbers");
-    box.charges[SHARED_LEVEL] = charge;
+    box.numbers.charges[SHARED_LEVEL] = charge;
     answers(comes(SENSOR), GRITGARLAND_NO_ERR, READING, "mended, the box goes on");
 }
 

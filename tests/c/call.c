@@ -4,11 +4,15 @@
 #include "libc.h"
 #include "same.h"
 
-_Static_assert(sizeof(gritgarland_task) == 24, "a task's record");
-_Static_assert(sizeof(gritgarland_state) == 2076 && sizeof(gritgarland_reply) == 2088, "a state");
+_Static_assert(sizeof(gritgarland_wait) == 12 && offsetof(gritgarland_wait, remaining) == 4, "a wait");
+_Static_assert(sizeof(gritgarland_task) == 24 && offsetof(gritgarland_task, wait) == 8 && offsetof(gritgarland_task, handed) == 20, "a task's record");
+_Static_assert(sizeof(gritgarland_queue) == 24 && sizeof(gritgarland_numbers) == 428, "a queue, and the numbers");
+_Static_assert(sizeof(gritgarland_state) == 2276 && sizeof(gritgarland_reply) == 2288, "a state");
 _Static_assert(offsetof(gritgarland_state, levels) == 600 && offsetof(gritgarland_state, waits) == 1344, "the queues");
-_Static_assert(offsetof(gritgarland_state, slices) == 1848 && offsetof(gritgarland_state, time) == 2072, "the numbers");
-_Static_assert(offsetof(gritgarland_state, attributes) == 2024 && offsetof(gritgarland_state, bits) == 2036, "the flags");
+_Static_assert(offsetof(gritgarland_state, numbers) == 1848 && offsetof(gritgarland_state, numbers.time) == 2272, "the numbers");
+_Static_assert(offsetof(gritgarland_numbers, charges) == 124 && offsetof(gritgarland_numbers, counts) == 248, "the levels' numbers");
+_Static_assert(offsetof(gritgarland_numbers, maxima) == 300 && offsetof(gritgarland_numbers, attributes) == 352, "the semaphores' numbers");
+_Static_assert(offsetof(gritgarland_numbers, bits) == 388 && offsetof(gritgarland_numbers, time) == 424, "the flags' numbers");
 
 enum { SERVICES = 32 };
 
@@ -51,20 +55,20 @@ static void flags(void)
     ask(GRITGARLAND_T, GRITGARLAND_EVENT_CREATE, 1, GRITGARLAND_ATTR_NEITHER, 0, GRITGARLAND_WRONG_PARAM, 1, "a flag that exists");
     ask(GRITGARLAND_T, GRITGARLAND_EVENT_CREATE, 2, 2, 0, GRITGARLAND_WRONG_PARAM, 1, "CLR without SINGLE");
     ask4(GRITGARLAND_T, GRITGARLAND_EVENT_WAIT, 1, 6, GRITGARLAND_AND, GRITGARLAND_ENDLESS, GRITGARLAND_PENDING, 0, 0, "task 1 waits on a flag");
-    expect(now.waits[13][0] == 1 && now.tasks[1].wait == 3 && now.tasks[1].object == 1, "the queue of the flag");
-    expect(now.tasks[1].pattern == 6 && now.tasks[1].mode == 1 && now.tasks[1].remaining == GRITGARLAND_ENDLESS, "what the wait asks for");
+    expect(now.waits[13].places[0] == 1 && now.tasks[1].wait.kind == 3 && now.tasks[1].wait.object == 1, "the queue of the flag");
+    expect(now.tasks[1].wait.pattern == 6 && now.tasks[1].wait.mode == 1 && now.tasks[1].wait.remaining == GRITGARLAND_ENDLESS, "what the wait asks for");
     ask(GRITGARLAND_I, GRITGARLAND_EVENT_ISET, 1, 2, 0, GRITGARLAND_NO_ERR, 0, "a set that does not meet it");
     ask(GRITGARLAND_I, GRITGARLAND_EVENT_IWAIT, 1, 2, GRITGARLAND_OR, GRITGARLAND_ILUSE, 0, "a poll beside the waiter of SINGLE");
-    expect(now.bits[1] == 2 && now.attributes[1] == 4, "the flag's numbers");
+    expect(now.numbers.bits[1] == 2 && now.numbers.attributes[1] == 4, "the flag's numbers");
     ask(GRITGARLAND_T, GRITGARLAND_EVENT_SET, 1, 13, 0, GRITGARLAND_NO_ERR, 1, "a set that meets it");
-    expect(now.tasks[1].handed == 15 && now.tasks[1].code == 0 && now.bits[1] == 0, "the bits as set are handed over, and CLR zeroes them");
+    expect(now.tasks[1].handed == 15 && now.tasks[1].code == 0 && now.numbers.bits[1] == 0, "the bits as set are handed over, and CLR zeroes them");
     ask(GRITGARLAND_T, GRITGARLAND_EVENT_WAIT_POLLING, 1, 1, GRITGARLAND_OR, GRITGARLAND_TIMEOUT, 1, "a poll that is not met");
     ask(GRITGARLAND_T, GRITGARLAND_EVENT_SET, 1, 7, 0, GRITGARLAND_NO_ERR, 1, "a set that meets nobody");
     ask(GRITGARLAND_T, GRITGARLAND_EVENT_CLEAR, 1, 1, 0, GRITGARLAND_NO_ERR, 1, "a clear");
     ask(GRITGARLAND_I, GRITGARLAND_EVENT_ICLEAR, 1, 10, 0, GRITGARLAND_NO_ERR, 1, "a clear from an interrupt");
-    expect(now.bits[1] == 4, "a clear takes its bits out");
+    expect(now.numbers.bits[1] == 4, "a clear takes its bits out");
     ask4(GRITGARLAND_T, GRITGARLAND_EVENT_WAIT, 1, 12, GRITGARLAND_OR, 1, GRITGARLAND_NO_ERR, 1, 4, "a wait that is met at once");
-    expect(now.bits[1] == 0 && now.tasks[1].handed == 15, "CLR zeroes the bits, and the record stays");
+    expect(now.numbers.bits[1] == 0 && now.tasks[1].handed == 15, "CLR zeroes the bits, and the record stays");
     ask4(GRITGARLAND_T, GRITGARLAND_EVENT_WAIT, 1, 12, GRITGARLAND_OR, 0, GRITGARLAND_WRONG_PARAM, 1, 0, "a flag wait of 0 ticks");
     ask4(GRITGARLAND_T, GRITGARLAND_EVENT_WAIT, 1, 0, GRITGARLAND_OR, 1, GRITGARLAND_WRONG_PARAM, 1, 0, "pattern 0");
     ask4(GRITGARLAND_T, GRITGARLAND_EVENT_WAIT, 1, 1, 2, 1, GRITGARLAND_WRONG_PARAM, 1, 0, "mode 2");
@@ -104,6 +108,43 @@ static void the_others(void)
     ask(GRITGARLAND_T, GRITGARLAND_SEM_DELETE, 1, 0, 0, GRITGARLAND_NO_ERR, 1, "delete the semaphore");
 }
 
+/* A number that no sound state has, though its lower bits might stand there: seen, refused, and left as it is. */
+static void too_large(uint32_t *number, uint32_t value, const char *what)
+{
+    uint32_t kept = *number;
+    *number = value;
+    gritgarland_state before = now;
+    gritgarland_reply r = gritgarland_call(now, GRITGARLAND_I, GRITGARLAND_TICK_INT_PROCESSING, 0, 0, 0, 0);
+    gritgarland_report p = gritgarland_call_in_place(&now, GRITGARLAND_I, GRITGARLAND_TICK_INT_PROCESSING, 0, 0, 0, 0);
+    expect(!gritgarland_is_sound(before), what);
+    expect(r.code == GRITGARLAND_UNSOUND && r.running == 0 && r.value == 0 && same(&r.state, &before), what);
+    expect(p.code == GRITGARLAND_UNSOUND && p.running == 0 && p.value == 0 && same(&now, &before), what);
+    *number = kept;
+}
+
+/* Task 1 runs, and flag 8 has no attributes. */
+static void upper_bits(void)
+{
+    ask(GRITGARLAND_T, GRITGARLAND_SEM_CREATE, 12, 5, 65535, GRITGARLAND_NO_ERR, 1, "the largest maximum");
+    ask(GRITGARLAND_T, GRITGARLAND_SYS_TSLICE_TICKS, 7, 1000, 0, GRITGARLAND_NO_ERR, 1, "the largest slice");
+    too_large(&now.numbers.maxima[12], 65536, "a maximum of 65,536");
+    too_large(&now.numbers.maxima[12], 65536 + 5, "a maximum that is 5 in 16 bits");
+    too_large(&now.numbers.maxima[12], UINT32_MAX, "a maximum of 4,294,967,295");
+    too_large(&now.numbers.maxima[1], 65536, "a maximum that is 0 in 16 bits");
+    too_large(&now.numbers.counts[12], 65536, "a count that is 0 in 16 bits");
+    too_large(&now.numbers.counts[12], UINT32_MAX, "a count of 4,294,967,295");
+    too_large(&now.numbers.slices[7], 65536 + 1000, "a slice that is 1,000 in 16 bits");
+    too_large(&now.numbers.slices[6], 65536, "a slice that is 0 in 16 bits");
+    too_large(&now.numbers.charges[7], 65536, "a charge that is 0 in 16 bits");
+    too_large(&now.numbers.attributes[8], 256 + 1, "attributes that are 1 in 8 bits");
+    too_large(&now.numbers.attributes[8], 65536 + 1, "attributes that are 1 in 16 bits");
+    too_large(&now.numbers.attributes[1], 256, "attributes that are 0 in 8 bits");
+    too_large(&now.numbers.slices[0], 65536, "a slice of level 0");
+    too_large(&now.numbers.counts[0], 65536, "a count of semaphore 0");
+    too_large(&now.numbers.attributes[0], 256, "attributes of flag 0");
+    expect(gritgarland_is_sound(now), "all as it was");
+}
+
 int main(void)
 {
     memset(&now, 0, sizeof now);
@@ -113,11 +154,11 @@ int main(void)
     ask(GRITGARLAND_T, GRITGARLAND_TASK_CREATE, 1, 5, 1, GRITGARLAND_NO_ERR, 1, "create task 1");
     ask(GRITGARLAND_T, GRITGARLAND_TASK_CREATE, 2, 5, 1, GRITGARLAND_NO_ERR, 1, "create task 2");
     ask(GRITGARLAND_T, GRITGARLAND_SEM_ACQUIRE, 1, 2, 0, GRITGARLAND_PENDING, 2, "task 1 waits");
-    expect(now.waits[1][0] == 1 && now.waits[1][1] == 0 && now.levels[5][0] == 2, "the queues after the wait");
+    expect(now.waits[1].places[0] == 1 && now.waits[1].places[1] == 0 && now.levels[5].places[0] == 2, "the queues after the wait");
     ask(GRITGARLAND_I, GRITGARLAND_TICK_INT_PROCESSING, 0, 0, 0, GRITGARLAND_NO_ERR, 2, "a tick");
-    expect(now.time == 1 && now.tasks[1].remaining == 1, "the time and the timeout after a tick");
+    expect(now.numbers.time == 1 && now.tasks[1].wait.remaining == 1, "the time and the timeout after a tick");
     ask(GRITGARLAND_I, GRITGARLAND_SEM_ISIGNAL, 1, 0, 0, GRITGARLAND_NO_ERR, 2, "a release wakes task 1");
-    expect(now.levels[5][0] == 2 && now.levels[5][1] == 1 && now.counts[1] == 0, "the level after the release");
+    expect(now.levels[5].places[0] == 2 && now.levels[5].places[1] == 1 && now.numbers.counts[1] == 0, "the level after the release");
     ask(GRITGARLAND_T, GRITGARLAND_SEM_SIGNAL, 1, 0, 0, GRITGARLAND_NO_ERR, 2, "a release raises the count");
     ask(GRITGARLAND_T, GRITGARLAND_SEM_SIGNAL, 1, 0, 0, GRITGARLAND_OVERFLOW, 2, "a release at the maximum");
     ask(GRITGARLAND_T, GRITGARLAND_TASK_EXIT, 0, 0, 0, GRITGARLAND_NO_ERR, 1, "task 2 exits");
@@ -135,7 +176,7 @@ int main(void)
     ask(GRITGARLAND_T, GRITGARLAND_TASK_SLEEP, 65535, 0, 0, GRITGARLAND_PENDING, 0, "a sleep of 65,535");
     for (uint32_t i = 1; i < 65535; i++)
         now = gritgarland_call(now, GRITGARLAND_I, GRITGARLAND_TICK_INT_PROCESSING, 0, 0, 0, 0).state;
-    expect(now.tasks[1].remaining == 1, "65,535 is finite");
+    expect(now.tasks[1].wait.remaining == 1, "65,535 is finite");
     ask(GRITGARLAND_I, GRITGARLAND_TICK_INT_PROCESSING, 0, 0, 0, GRITGARLAND_NO_ERR, 1, "and ends at tick 65,535");
 
     the_others();
@@ -143,8 +184,9 @@ int main(void)
     for (int service = 1; service <= SERVICES; service++)
         expect(accepted[service], "a service that no call named");
 
+    upper_bits();
     gritgarland_state broken = now;
-    broken.attributes[8] = 3;
+    broken.numbers.attributes[8] = 3;
     expect(!gritgarland_is_sound(broken), "CLR without SINGLE is not sound");
     broken = now;
     broken.tasks[1].wakeups = 2;

@@ -1,4 +1,4 @@
-/* Two states are the same if every field is; the padding in a task's record and after the attributes is no field. */
+/* Two states are the same if every field is; the two bytes of padding in a task's record, 7 and 11, are no field. */
 #ifndef TESTS_SAME_H
 #define TESTS_SAME_H
 
@@ -12,10 +12,10 @@ static inline int same_part(const gritgarland_state *a, const gritgarland_state 
 
 static inline int same(const gritgarland_state *a, const gritgarland_state *b)
 {
-    for (size_t t = 0; t <= GRITGARLAND_TASKS; t++)
-        if (!same_part(a, b, 24 * t, 24 * t + 10) || !same_part(a, b, 24 * t + 12, 24 * t + 24))
+    for (size_t at = 0; at < offsetof(gritgarland_state, levels); at += 24)
+        if (!same_part(a, b, at, at + 7) || !same_part(a, b, at + 8, at + 11) || !same_part(a, b, at + 12, at + 24))
             return 0;
-    return same_part(a, b, 600, 2033) && same_part(a, b, 2036, sizeof *a);
+    return same_part(a, b, offsetof(gritgarland_state, levels), sizeof *a);
 }
 
 #endif

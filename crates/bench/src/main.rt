@@ -31,14 +31,15 @@ fn ticked(s: State, n: u32) -> State {
 }
 
 fn running(s: State) -> u32 {
-    let levels = s.levels;
-    rows::best(&levels) as u32
+    kernel::running(s) as u32
 }
 
 fn remaining(s: State, t: usize) -> u32 {
     let tasks = s.tasks;
     if t < 25 {
-        return tasks[t].remaining;
+        let x = tasks[t];
+        let w = x.wait;
+        return w.remaining;
     }
     0
 }

@@ -9,9 +9,10 @@ use Rattle.model.specs.Code.{isNegative, isRefusal}
 use Rattle.model.specs.Test.{isSound}
 use Rattle.border.specs.declared.From.{From}
 use Rattle.border.specs.declared.From.the-variants.{Known, Nowhere}
-use Rattle.border.specs.declared.Asked.{Asked}
-use Rattle.border.specs.declared.Asked.the-variants.{Named, Nothing}
-use Rattle.border.specs.Border.{contextOf, serviceOf, unknown, answered, reply}
+use Rattle.services.specs.declared.calls.Asked.{Asked}
+use Rattle.services.specs.declared.calls.Asked.the-variants.{Named, Nothing}
+use Rattle.services.specs.Calls.{asked}
+use Rattle.border.specs.Border.{contextOf, unknown, answered, reply}
 use Rattle.kept.proofs.Kept.{refused-call-is-unchanged}
 
 -- a test picks one of two answers
@@ -31,4 +32,4 @@ refused-answer-is-unchanged s (Known c) (Named a) e = refused-call-is-unchanged 
 
 pub refused-reply-is-unchanged : (s : State) (context service a b c d : ℕ) → isNegative (reply s context service a b c d .code) ≡ true → reply s context service a b c d .state ≡ s
 unfolding reply
-refused-reply-is-unchanged s context service a b c d e = refused-answer-is-unchanged s (contextOf context) (serviceOf service a b c d) e
+refused-reply-is-unchanged s context service a b c d e = refused-answer-is-unchanged s (contextOf context) (asked service a b c d) e

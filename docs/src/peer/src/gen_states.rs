@@ -61,7 +61,7 @@ pub fn damage(rng: &mut Rng, state: &State) -> Damage {
 pub fn damage_at(rng: &mut Rng, state: &State, slot: usize) -> Damage {
     let old = slots::get(state, slot);
     for _ in 0..10 {
-        let value = match rng.below(8) {
+        let value = match rng.below(10) {
             0 => 0,
             1 => old.wrapping_add(1),
             2 => old.wrapping_sub(1),
@@ -69,6 +69,8 @@ pub fn damage_at(rng: &mut Rng, state: &State, slot: usize) -> Damage {
             4 => rng.pick(&[4, 10, 11]),
             5 => rng.from(1, 30),
             6 => rng.pick(&LIMITS),
+            7 => old ^ (1 << rng.below(32)),
+            8 => old | ((rng.any() as u32) << rng.pick(&[8, 16])), // the lower bits stay
             _ => rng.any() as u32,
         };
         let damage = Damage { slot, value };

@@ -1,10 +1,11 @@
 //! The byte layout of the library's State, field by field, and the way to it and back from the peer's own state.
 //! `call` is the library's by-value call in the peer's terms: the soundness test first, then the call on the peer's state.
 
-use crate::kernel::{Asked, Flag, Kernel, Level, Semaphore, Task as Own, Wait, SEMAPHORES, UNSOUND};
-use crate::queue::{Queue, PLACES};
+use crate::kernel::{self, Asked, Kernel, SEMAPHORES, UNSOUND};
+use crate::queue::{self, PLACES};
 use crate::services::Call;
 use crate::sound::is_sound;
+use std::mem::{offset_of, size_of};
 
 pub const TASK_PLACES: usize = 25;
 pub const LEVEL_PLACES: usize = 31;
@@ -15,40 +16,58 @@ pub const WAIT_ROWS: usize = 21;
 
 #[repr(C)]
 #[derive(Clone, Copy, PartialEq, Eq, Debug)]
+pub struct Wait {
+    pub kind: u8,
+    pub object: u8,
+    pub mode: u8,
+    pub remaining: u32,
+    pub pattern: u32,
+}
+
+#[repr(C)]
+#[derive(Clone, Copy, PartialEq, Eq, Debug)]
 pub struct Task {
     pub base: u8,
     pub priority: u8,
     pub active: u8,
     pub suspended: u8,
-    pub wait: u8,
-    pub object: u8,
     pub wakeups: u8,
     pub activations: u8,
     pub code: u8,
-    pub mode: u8,
-    pub remaining: u32,
-    pub pattern: u32,
+    pub wait: Wait,
     pub handed: u32,
+}
+
+#[repr(C)]
+#[derive(Clone, Copy, PartialEq, Eq, Debug)]
+pub struct Queue {
+    pub places: [u8; PLACES],
+}
+
+#[repr(C)]
+#[derive(Clone, Copy, PartialEq, Eq, Debug)]
+pub struct Numbers {
+    pub slices: [u32; LEVEL_PLACES],
+    pub charges: [u32; LEVEL_PLACES],
+    pub counts: [u32; SEMAPHORE_PLACES],
+    pub maxima: [u32; SEMAPHORE_PLACES],
+    /// The attributes plus 1; 0: not created.
+    pub attributes: [u32; FLAG_PLACES],
+    pub bits: [u32; FLAG_PLACES],
+    pub time: u32,
 }
 
 #[repr(C)]
 #[derive(Clone, Copy, PartialEq, Eq, Debug)]
 pub struct State {
     pub tasks: [Task; TASK_PLACES],
-    pub levels: [u8; LEVEL_PLACES * PLACES],
-    pub waits: [u8; WAIT_ROWS * PLACES],
-    pub slices: [u16; LEVEL_PLACES],
-    pub charges: [u16; LEVEL_PLACES],
-    pub counts: [u16; SEMAPHORE_PLACES],
-    pub maxima: [u16; SEMAPHORE_PLACES],
-    /// The attributes plus 1; 0: not created.
-    pub attributes: [u8; FLAG_PLACES],
-    pub bits: [u32; FLAG_PLACES],
-    pub time: u32,
+    pub levels: [Queue; LEVEL_PLACES],
+    pub waits: [Queue; WAIT_ROWS],
+    pub numbers: Numbers,
 }
 
-const _: () = assert!(std::mem::size_of::<Task>() == 24);
-const _: () = assert!(std::mem::size_of::<State>() == 2076);
+const _: () = assert!(size_of::<Task>() == 24 && offset_of!(Task, wait) == 8 && offset_of!(Task, handed) == 20);
+const _: () = assert!(size_of::<State>() == 2276 && offset_of!(State, numbers) == 1848);
 
 #[repr(C)]
 #[derive(Clone, Copy, PartialEq, Eq, Debug)]
@@ -59,45 +78,51 @@ pub struct Reply {
     pub state: State,
 }
 
+impl Wait {
+    pub const NONE: Wait = Wait { kind: 0, object: 0, mode: 0, remaining: 0, pattern: 0 };
+}
+
 impl Task {
     pub const NONE: Task = Task {
         base: 0,
         priority: 0,
         active: 0,
         suspended: 0,
-        wait: 0,
-        object: 0,
         wakeups: 0,
         activations: 0,
         code: 0,
-        mode: 0,
-        remaining: 0,
-        pattern: 0,
+        wait: Wait::NONE,
         handed: 0,
     };
+}
+
+impl Queue {
+    pub const EMPTY: Queue = Queue { places: [0; PLACES] };
 }
 
 impl State {
     pub const FRESH: State = State {
         tasks: [Task::NONE; TASK_PLACES],
-        levels: [0; LEVEL_PLACES * PLACES],
-        waits: [0; WAIT_ROWS * PLACES],
-        slices: [0; LEVEL_PLACES],
-        charges: [0; LEVEL_PLACES],
-        counts: [0; SEMAPHORE_PLACES],
-        maxima: [0; SEMAPHORE_PLACES],
-        attributes: [0; FLAG_PLACES],
-        bits: [0; FLAG_PLACES],
-        time: 0,
+        levels: [Queue::EMPTY; LEVEL_PLACES],
+        waits: [Queue::EMPTY; WAIT_ROWS],
+        numbers: Numbers {
+            slices: [0; LEVEL_PLACES],
+            charges: [0; LEVEL_PLACES],
+            counts: [0; SEMAPHORE_PLACES],
+            maxima: [0; SEMAPHORE_PLACES],
+            attributes: [0; FLAG_PLACES],
+            bits: [0; FLAG_PLACES],
+            time: 0,
+        },
     };
 
     pub fn level(&self, level: usize) -> &[u8] {
-        &self.levels[level * PLACES..(level + 1) * PLACES]
+        &self.levels[level].places
     }
 
     /// Those who wait on a semaphore; row 0 is nobody's.
     pub fn waiters(&self, semaphore: usize) -> &[u8] {
-        &self.waits[semaphore * PLACES..(semaphore + 1) * PLACES]
+        &self.waits[semaphore].places
     }
 
     /// Those who wait on a flag, from 1.
@@ -112,50 +137,55 @@ const NOTHING_ASKED: Asked = Asked { pattern: 0, all: false };
 pub fn store(kernel: &Kernel) -> State {
     let mut state = State::FRESH;
     for (to, from) in state.tasks.iter_mut().zip(&kernel.tasks) {
-        let (wait, object, asked) = match from.wait {
-            Wait::Nothing => (0, 0, NOTHING_ASKED),
-            Wait::Sleep => (1, 0, NOTHING_ASKED),
-            Wait::Semaphore(s) => (2, s, NOTHING_ASKED),
-            Wait::Flag(f, asked) => (3, f, asked),
-        };
         *to = Task {
             base: from.base,
             priority: from.priority,
             active: from.active.into(),
             suspended: from.suspended.into(),
-            wait,
-            object,
             wakeups: from.wakeups,
             activations: from.activations,
             code: from.wait_code.unsigned_abs(),
-            mode: asked.all.into(),
-            remaining: from.remaining,
-            pattern: asked.pattern,
+            wait: stored_wait(from),
             handed: from.handed,
         };
     }
+    let numbers = &mut state.numbers;
     for (p, level) in kernel.levels.iter().enumerate() {
-        let tasks = level.queue.as_slice();
-        state.levels[p * PLACES..][..tasks.len()].copy_from_slice(tasks);
-        state.slices[p] = level.slice;
-        state.charges[p] = level.charge;
+        state.levels[p] = stored_queue(&level.queue);
+        numbers.slices[p] = level.slice.into();
+        numbers.charges[p] = level.charge.into();
     }
     for (s, semaphore) in kernel.semaphores.iter().enumerate() {
-        let tasks = semaphore.queue.as_slice();
-        state.waits[s * PLACES..][..tasks.len()].copy_from_slice(tasks);
-        state.counts[s] = semaphore.count;
-        state.maxima[s] = semaphore.maximum;
+        state.waits[s] = stored_queue(&semaphore.queue);
+        numbers.counts[s] = semaphore.count.into();
+        numbers.maxima[s] = semaphore.maximum.into();
     }
     for (f, flag) in kernel.flags.iter().enumerate().skip(1) {
-        let tasks = flag.queue.as_slice();
-        state.waits[(f + SEMAPHORES as usize) * PLACES..][..tasks.len()].copy_from_slice(tasks);
+        state.waits[f + SEMAPHORES as usize] = stored_queue(&flag.queue);
         if flag.created {
-            state.attributes[f] = 1 + u8::from(flag.single) + 2 * u8::from(flag.clr);
+            numbers.attributes[f] = 1 + u32::from(flag.single) + 2 * u32::from(flag.clr);
         }
-        state.bits[f] = flag.bits;
+        numbers.bits[f] = flag.bits;
     }
-    state.time = kernel.time;
+    numbers.time = kernel.time;
     state
+}
+
+fn stored_wait(task: &kernel::Task) -> Wait {
+    let (kind, object, asked) = match task.wait {
+        kernel::Wait::Nothing => (0, 0, NOTHING_ASKED),
+        kernel::Wait::Sleep => (1, 0, NOTHING_ASKED),
+        kernel::Wait::Semaphore(s) => (2, s, NOTHING_ASKED),
+        kernel::Wait::Flag(f, asked) => (3, f, asked),
+    };
+    Wait { kind, object, mode: asked.all.into(), remaining: task.remaining, pattern: asked.pattern }
+}
+
+fn stored_queue(queue: &queue::Queue) -> Queue {
+    let mut stored = Queue::EMPTY;
+    let tasks = queue.as_slice();
+    stored.places[..tasks.len()].copy_from_slice(tasks);
+    stored
 }
 
 /// The peer's state from the library's; none if it is unsound.
@@ -165,47 +195,59 @@ pub fn load(state: &State) -> Option<Kernel> {
     }
     let mut kernel = Kernel::fresh();
     for (to, from) in kernel.tasks.iter_mut().zip(&state.tasks) {
-        *to = Own {
+        *to = kernel::Task {
             base: from.base,
             priority: from.priority,
             active: from.active == 1,
             suspended: from.suspended == 1,
-            wait: match from.wait {
-                0 => Wait::Nothing,
-                1 => Wait::Sleep,
-                2 => Wait::Semaphore(from.object),
-                _ => Wait::Flag(from.object, Asked { pattern: from.pattern, all: from.mode == 1 }),
-            },
+            wait: loaded_wait(&from.wait),
             wakeups: from.wakeups,
             activations: from.activations,
             wait_code: -(from.code as i8),
-            remaining: from.remaining,
+            remaining: from.wait.remaining,
             handed: from.handed,
         };
     }
+    let numbers = &state.numbers;
     for (p, to) in kernel.levels.iter_mut().enumerate() {
-        *to = Level { queue: queue(state.level(p)), slice: state.slices[p], charge: state.charges[p] };
+        let (slice, charge) = (short(numbers.slices[p]), short(numbers.charges[p]));
+        *to = kernel::Level { queue: loaded_queue(state.level(p)), slice, charge };
     }
     for (s, to) in kernel.semaphores.iter_mut().enumerate() {
-        *to = Semaphore { queue: queue(state.waiters(s)), count: state.counts[s], maximum: state.maxima[s] };
+        let (count, maximum) = (short(numbers.counts[s]), short(numbers.maxima[s]));
+        *to = kernel::Semaphore { queue: loaded_queue(state.waiters(s)), count, maximum };
     }
     for (f, to) in kernel.flags.iter_mut().enumerate().skip(1) {
-        let created = state.attributes[f] != 0;
-        let attributes = state.attributes[f].saturating_sub(1);
+        let created = numbers.attributes[f] != 0;
+        let attributes = numbers.attributes[f].saturating_sub(1);
         let (single, clr) = (attributes & 1 != 0, attributes & 2 != 0);
-        *to = Flag { queue: queue(state.flag_waiters(f)), created, single, clr, bits: state.bits[f] };
+        *to = kernel::Flag { queue: loaded_queue(state.flag_waiters(f)), created, single, clr, bits: numbers.bits[f] };
     }
-    kernel.time = state.time;
+    kernel.time = numbers.time;
     kernel.index();
     Some(kernel)
 }
 
-fn queue(row: &[u8]) -> Queue {
-    let mut queue = Queue::EMPTY;
+fn loaded_wait(wait: &Wait) -> kernel::Wait {
+    match wait.kind {
+        0 => kernel::Wait::Nothing,
+        1 => kernel::Wait::Sleep,
+        2 => kernel::Wait::Semaphore(wait.object),
+        _ => kernel::Wait::Flag(wait.object, Asked { pattern: wait.pattern, all: wait.mode == 1 }),
+    }
+}
+
+fn loaded_queue(row: &[u8]) -> queue::Queue {
+    let mut queue = queue::Queue::EMPTY;
     for &task in row.iter().take_while(|&&task| task != 0) {
         queue.join(task as usize);
     }
     queue
+}
+
+/// A number of a level or a semaphore, which the peer keeps in 16 bits.
+fn short(number: u32) -> u16 {
+    u16::try_from(number).expect("a sound state has no larger one")
 }
 
 /// One call on a state by value: an unsound one comes back as it came, with code -12 and no task running.

@@ -1,12 +1,13 @@
 //! Every number in the library's State by one running index, to damage any of them and to name the first that differs.
-//! The padding in a task's record and after the attributes is no number and has no index.
+//! The padding in a task's record is no number and has no index.
 
-use crate::layout::{State, FLAG_PLACES, LEVEL_PLACES, SEMAPHORE_PLACES, TASK_PLACES, WAIT_ROWS};
+use crate::layout::{Queue, State, FLAG_PLACES, LEVEL_PLACES, SEMAPHORE_PLACES, TASK_PLACES, WAIT_ROWS};
 use crate::queue::PLACES;
 
 #[rustfmt::skip]
 pub const TASK_FIELDS: [&str; 13] = [
-    "base", "priority", "active", "suspended", "wait", "object", "wakeups", "activations", "code", "mode", "remaining", "pattern", "handed",
+    "base", "priority", "active", "suspended", "wakeups", "activations", "code",
+    "wait.kind", "wait.object", "wait.mode", "wait.remaining", "wait.pattern", "handed",
 ];
 
 const LEVELS_AT: usize = TASK_PLACES * TASK_FIELDS.len();
@@ -31,11 +32,11 @@ pub const ROWS: std::ops::Range<usize> = LEVELS_AT..SLICES_AT;
 /// One number of a State, at its own width.
 enum Place<'a> {
     Byte(&'a mut u8),
-    Half(&'a mut u16),
     Word(&'a mut u32),
 }
 
 fn place(state: &mut State, slot: usize) -> Place<'_> {
+    let numbers = &mut state.numbers;
     match slot {
         0..LEVELS_AT => {
             let task = &mut state.tasks[slot / TASK_FIELDS.len()];
@@ -44,34 +45,37 @@ fn place(state: &mut State, slot: usize) -> Place<'_> {
                 1 => Place::Byte(&mut task.priority),
                 2 => Place::Byte(&mut task.active),
                 3 => Place::Byte(&mut task.suspended),
-                4 => Place::Byte(&mut task.wait),
-                5 => Place::Byte(&mut task.object),
-                6 => Place::Byte(&mut task.wakeups),
-                7 => Place::Byte(&mut task.activations),
-                8 => Place::Byte(&mut task.code),
-                9 => Place::Byte(&mut task.mode),
-                10 => Place::Word(&mut task.remaining),
-                11 => Place::Word(&mut task.pattern),
+                4 => Place::Byte(&mut task.wakeups),
+                5 => Place::Byte(&mut task.activations),
+                6 => Place::Byte(&mut task.code),
+                7 => Place::Byte(&mut task.wait.kind),
+                8 => Place::Byte(&mut task.wait.object),
+                9 => Place::Byte(&mut task.wait.mode),
+                10 => Place::Word(&mut task.wait.remaining),
+                11 => Place::Word(&mut task.wait.pattern),
                 _ => Place::Word(&mut task.handed),
             }
         }
-        LEVELS_AT..WAITS_AT => Place::Byte(&mut state.levels[slot - LEVELS_AT]),
-        WAITS_AT..SLICES_AT => Place::Byte(&mut state.waits[slot - WAITS_AT]),
-        SLICES_AT..CHARGES_AT => Place::Half(&mut state.slices[slot - SLICES_AT]),
-        CHARGES_AT..COUNTS_AT => Place::Half(&mut state.charges[slot - CHARGES_AT]),
-        COUNTS_AT..MAXIMA_AT => Place::Half(&mut state.counts[slot - COUNTS_AT]),
-        MAXIMA_AT..ATTRIBUTES_AT => Place::Half(&mut state.maxima[slot - MAXIMA_AT]),
-        ATTRIBUTES_AT..BITS_AT => Place::Byte(&mut state.attributes[slot - ATTRIBUTES_AT]),
-        BITS_AT..TIME_AT => Place::Word(&mut state.bits[slot - BITS_AT]),
-        _ => Place::Word(&mut state.time),
+        LEVELS_AT..WAITS_AT => queue_place(&mut state.levels, slot - LEVELS_AT),
+        WAITS_AT..SLICES_AT => queue_place(&mut state.waits, slot - WAITS_AT),
+        SLICES_AT..CHARGES_AT => Place::Word(&mut numbers.slices[slot - SLICES_AT]),
+        CHARGES_AT..COUNTS_AT => Place::Word(&mut numbers.charges[slot - CHARGES_AT]),
+        COUNTS_AT..MAXIMA_AT => Place::Word(&mut numbers.counts[slot - COUNTS_AT]),
+        MAXIMA_AT..ATTRIBUTES_AT => Place::Word(&mut numbers.maxima[slot - MAXIMA_AT]),
+        ATTRIBUTES_AT..BITS_AT => Place::Word(&mut numbers.attributes[slot - ATTRIBUTES_AT]),
+        BITS_AT..TIME_AT => Place::Word(&mut numbers.bits[slot - BITS_AT]),
+        _ => Place::Word(&mut numbers.time),
     }
+}
+
+fn queue_place(queues: &mut [Queue], at: usize) -> Place<'_> {
+    Place::Byte(&mut queues[at / PLACES].places[at % PLACES])
 }
 
 pub fn get(state: &State, slot: usize) -> u32 {
     let mut copy = *state;
     match place(&mut copy, slot) {
         Place::Byte(n) => u32::from(*n),
-        Place::Half(n) => u32::from(*n),
         Place::Word(n) => *n,
     }
 }
@@ -80,8 +84,15 @@ pub fn get(state: &State, slot: usize) -> u32 {
 pub fn set(state: &mut State, slot: usize, value: u32) {
     match place(state, slot) {
         Place::Byte(n) => *n = value as u8,
-        Place::Half(n) => *n = value as u16,
         Place::Word(n) => *n = value,
+    }
+}
+
+/// How many bits the number has.
+pub fn width(slot: usize) -> u32 {
+    match place(&mut { State::FRESH }, slot) {
+        Place::Byte(_) => u8::BITS,
+        Place::Word(_) => u32::BITS,
     }
 }
 

@@ -1,8 +1,8 @@
 //! The test of 'A sound state' on the library's layout, sentence by sentence, with what request P1 adds to it.
 //! It holds on any bytes: nothing is indexed by a number that was not tested before.
 
-use crate::kernel::{Asked, FLAGS, LARGEST_SLICE, LEVELS, SEMAPHORES, TASKS};
-use crate::layout::{State, Task};
+use crate::kernel::{Asked, FLAGS, LARGEST_MAXIMUM, LARGEST_SLICE, LEVELS, SEMAPHORES, TASKS};
+use crate::layout::{State, Task, Wait};
 
 pub fn is_sound(s: &State) -> bool {
     nothing_at_place_zero(s)
@@ -17,12 +17,12 @@ fn nothing_at_place_zero(s: &State) -> bool {
     s.tasks[0] == Task::NONE
         && s.level(0).iter().all(|&t| t == 0)
         && s.waiters(0).iter().all(|&t| t == 0)
-        && s.slices[0] == 0
-        && s.charges[0] == 0
-        && s.counts[0] == 0
-        && s.maxima[0] == 0
-        && s.attributes[0] == 0
-        && s.bits[0] == 0
+        && s.numbers.slices[0] == 0
+        && s.numbers.charges[0] == 0
+        && s.numbers.counts[0] == 0
+        && s.numbers.maxima[0] == 0
+        && s.numbers.attributes[0] == 0
+        && s.numbers.bits[0] == 0
 }
 
 fn task_is_sound(s: &State, task: &Task) -> bool {
@@ -30,10 +30,10 @@ fn task_is_sound(s: &State, task: &Task) -> bool {
         return *task == Task::NONE; // objects not created are all zeros
     }
     numbers_in_range(task)
-        && waits_for_something_there(s, task)
-        && if task.wait == 0 { task.remaining == 0 } else { task.remaining >= 1 && task.code == 0 && task.handed == 0 }
-        && asks_what_it_may(task)
-        && (task.wait != 1 || task.wakeups == 0) // a sleeper's wakeup count is 0
+        && waits_for_something_there(s, &task.wait)
+        && asks_what_it_may(&task.wait)
+        && (task.wait.kind == 0 || (task.code == 0 && task.handed == 0))
+        && (task.wait.kind != 1 || task.wakeups == 0) // a sleeper's wakeup count is 0
         && (task.active == 1 || is_at_rest(task))
 }
 
@@ -50,26 +50,27 @@ fn numbers_in_range(task: &Task) -> bool {
 }
 
 /// A task waits for nothing, a sleep, a created semaphore or a created flag.
-fn waits_for_something_there(s: &State, task: &Task) -> bool {
-    match task.wait {
-        0 | 1 => task.object == 0,
-        2 => (1..=SEMAPHORES as u8).contains(&task.object) && s.maxima[task.object as usize] != 0,
-        3 => (1..=FLAGS as u8).contains(&task.object) && s.attributes[task.object as usize] != 0,
+fn waits_for_something_there(s: &State, wait: &Wait) -> bool {
+    match wait.kind {
+        0 | 1 => wait.object == 0,
+        2 => (1..=SEMAPHORES as u8).contains(&wait.object) && s.numbers.maxima[wait.object as usize] != 0,
+        3 => (1..=FLAGS as u8).contains(&wait.object) && s.numbers.attributes[wait.object as usize] != 0,
         _ => false,
     }
 }
 
-/// What a flag wait asks is in range; pattern and mode are 0 outside it.
-fn asks_what_it_may(task: &Task) -> bool {
-    match task.wait {
-        3 => task.pattern != 0 && task.mode <= 1,
-        _ => task.pattern == 0 && task.mode == 0,
-    }
+/// A wait has remaining ticks of 1 or more, else there are none; what a flag wait asks is in range, and 0 outside it.
+fn asks_what_it_may(wait: &Wait) -> bool {
+    (wait.kind != 0) == (wait.remaining >= 1)
+        && match wait.kind {
+            3 => wait.pattern != 0 && wait.mode <= 1,
+            _ => wait.pattern == 0 && wait.mode == 0,
+        }
 }
 
 /// A dormant task has no wait, suspension, counts or code, nothing handed over, and its creation priority.
 fn is_at_rest(task: &Task) -> bool {
-    task.wait == 0
+    task.wait.kind == 0
         && task.suspended == 0
         && task.wakeups == 0
         && task.activations == 0
@@ -80,31 +81,32 @@ fn is_at_rest(task: &Task) -> bool {
 
 /// Slices are in range; charge is below the slice, or both are 0; the runnable tasks of this priority are listed.
 fn level_is_sound(s: &State, p: usize) -> bool {
-    let (slice, charge) = (s.slices[p], s.charges[p]);
-    u32::from(slice) <= LARGEST_SLICE
+    let (slice, charge) = (s.numbers.slices[p], s.numbers.charges[p]);
+    slice <= LARGEST_SLICE
         && (charge < slice || (charge == 0 && slice == 0))
         && lists_exactly(s.level(p), s, |task| {
-            task.active == 1 && task.suspended == 0 && task.wait == 0 && usize::from(task.priority) == p
+            task.active == 1 && task.suspended == 0 && task.wait.kind == 0 && usize::from(task.priority) == p
         })
 }
 
-/// Count is at most maximum, and 0 while anyone waits; the tasks waiting on it are listed.
+/// Maximum is in range; count is at most maximum, and 0 while anyone waits; the tasks waiting on it are listed.
 /// One that is not created has maximum and count 0; that nobody may wait on it empties its queue.
 fn semaphore_is_sound(s: &State, k: usize) -> bool {
     let waiters = s.waiters(k);
-    s.counts[k] <= s.maxima[k]
-        && (s.maxima[k] != 0 || waiters.iter().all(|&t| t == 0))
-        && (waiters[0] == 0 || s.counts[k] == 0)
-        && lists_exactly(waiters, s, |task| task.wait == 2 && usize::from(task.object) == k)
+    s.numbers.maxima[k] <= LARGEST_MAXIMUM
+        && s.numbers.counts[k] <= s.numbers.maxima[k]
+        && (s.numbers.maxima[k] != 0 || waiters.iter().all(|&t| t == 0))
+        && (waiters[0] == 0 || s.numbers.counts[k] == 0)
+        && lists_exactly(waiters, s, |task| task.wait.kind == 2 && usize::from(task.wait.object) == k)
 }
 
 /// Its attributes are in range; one that is not created has no bits and nobody waits on it; on SINGLE one at most waits.
 /// The tasks waiting on it are listed, and its bits meet none of them.
 fn flag_is_sound(s: &State, f: usize) -> bool {
     let waiters = s.flag_waiters(f);
-    let waits_here = |task: &Task| task.wait == 3 && usize::from(task.object) == f;
-    let numbers = match s.attributes[f] {
-        0 => s.bits[f] == 0 && waiters[0] == 0,
+    let waits_here = |task: &Task| task.wait.kind == 3 && usize::from(task.wait.object) == f;
+    let numbers = match s.numbers.attributes[f] {
+        0 => s.numbers.bits[f] == 0 && waiters[0] == 0,
         1 => true,
         2 | 4 => waiters[1] == 0,
         _ => false,
@@ -112,8 +114,8 @@ fn flag_is_sound(s: &State, f: usize) -> bool {
     numbers
         && lists_exactly(waiters, s, waits_here)
         && s.tasks.iter().filter(|task| waits_here(task)).all(|task| {
-            let asked = Asked { pattern: task.pattern, all: task.mode == 1 };
-            !asked.is_met_by(s.bits[f])
+            let asked = Asked { pattern: task.wait.pattern, all: task.wait.mode == 1 };
+            !asked.is_met_by(s.numbers.bits[f])
         })
 }
 

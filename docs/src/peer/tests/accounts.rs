@@ -25,8 +25,9 @@ struct Tally {
 
 /// How many waits on this semaphore were there before and have ended with 0.
 fn ended(before: &State, after: &State, semaphore: usize) -> u64 {
-    let waited = |t: usize| before.tasks[t].wait == A_SEMAPHORE && usize::from(before.tasks[t].object) == semaphore;
-    let is_over = |t: usize| after.tasks[t].wait == 0 && after.tasks[t].code == 0;
+    let waited =
+        |t: usize| before.tasks[t].wait.kind == A_SEMAPHORE && usize::from(before.tasks[t].wait.object) == semaphore;
+    let is_over = |t: usize| after.tasks[t].wait.kind == 0 && after.tasks[t].code == 0;
     (1..TASK_PLACES).filter(|&t| waited(t) && is_over(t)).count() as u64
 }
 
@@ -46,7 +47,7 @@ impl Tally {
         }
     }
 
-    fn is_even(&self, count: u16) -> bool {
+    fn is_even(&self, count: u32) -> bool {
         self.start + self.released == u64::from(count) + self.at_once + self.polled + self.handed
     }
 }
@@ -74,7 +75,7 @@ fn every_resource_is_accounted_for() {
                     tally.fooled += ended;
                     looked_served += ended;
                 }
-                let count = reply.state.counts[m];
+                let count = reply.state.numbers.counts[m];
                 assert!(
                     tally.is_even(count),
                     "seed {seed}, after call {number}, {call}: the account of {m} is not even"

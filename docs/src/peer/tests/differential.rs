@@ -9,7 +9,7 @@ use peer::kernel::{Answer, Kernel, UNSOUND, WRONG_PARAM};
 use peer::layout::{self, store, Reply, State};
 use peer::services::*;
 use peer::shrink::shrink;
-use peer::slots::{differences, get, set, ROWS, SLOTS};
+use peer::slots::{differences, get, set, width, ROWS, SLOTS};
 use peer::sound::is_sound;
 
 mod library;
@@ -137,8 +137,30 @@ fn every_number_damaged() {
     }
 }
 
+/// Every bit of every number turned over, those above what its range needs too: 267,120 states.
+#[test]
+fn every_bit_turned_over() {
+    let mut world = World::new(16);
+    let mut states = 0;
+    for seed in 6_000..6_015 {
+        let (calls, state) = reached(seed);
+        for slot in 0..SLOTS {
+            for bit in 0..width(slot) {
+                let last = world.call();
+                test_damaged(seed, &calls, &[Damage { slot, value: get(&state, slot) ^ (1 << bit) }], &last);
+                states += 1;
+            }
+        }
+    }
+    assert_eq!(states, 267_120);
+}
+
+/// What means something above the smallest numbers, or would in 8 or 16 bits: 256 to 260 are 0 to 4 in 8.
+const BEYOND: [u32; 15] =
+    [254, 255, 256, 257, 258, 260, 999, 1_000, 1_001, 65_534, 65_535, 65_536, 65_537, 1 << 31, u32::MAX];
+
 /// Every number outside the queues, and every place of a queue up to the first free one, with each value that means
-/// something somewhere: above 300,000 states.
+/// something somewhere: above 350,000 states.
 #[test]
 fn every_value_that_means_something() {
     let mut world = World::new(15);
@@ -147,14 +169,14 @@ fn every_value_that_means_something() {
         let (calls, state) = reached(seed);
         let used = |slot: usize| !ROWS.contains(&slot) || get(&state, slot) != 0 || get(&state, slot - 1) != 0;
         for slot in (0..SLOTS).filter(|&slot| used(slot)) {
-            for value in (0..=32).chain([254, 255, 999, 1_000, 1_001, 65_534, 65_535, u32::MAX]) {
+            for value in (0..=32).chain(BEYOND) {
                 let last = world.call();
                 test_damaged(seed, &calls, &[Damage { slot, value }], &last);
                 states += 1;
             }
         }
     }
-    assert!(states > 300_000, "{states}");
+    assert!(states > 350_000, "{states}");
 }
 
 /// 30,000 states with one number damaged where it matters most, and 10,000 with two or three.

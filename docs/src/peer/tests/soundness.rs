@@ -45,25 +45,22 @@ fn with(change: impl FnOnce(&mut State)) -> bool {
     is_sound(&state)
 }
 
-const LEVEL_5: usize = 5 * 24;
-const SEMAPHORE_4: usize = 4 * 24;
-
 #[test]
 fn sound_as_it_is_and_at_any_time() {
     assert!(is_sound(&State::FRESH) && is_sound(&sample()));
     for time in [1, 65_535, u32::MAX] {
-        assert!(with(|s| s.time = time));
+        assert!(with(|s| s.numbers.time = time));
     }
 }
 
 #[test]
 fn harmless_changes() {
-    assert!(with(|s| s.levels.swap(LEVEL_5, LEVEL_5 + 1)));
-    assert!(with(|s| s.waits.swap(SEMAPHORE_4, SEMAPHORE_4 + 1)));
-    assert!(with(|s| s.charges[5] = 2));
-    assert!(with(|s| s.slices[5] = 1_000));
-    assert!(with(|s| s.counts[12] = 65_535));
-    assert!(with(|s| s.tasks[6].remaining = FOREVER));
+    assert!(with(|s| s.levels[5].places.swap(0, 1)));
+    assert!(with(|s| s.waits[4].places.swap(0, 1)));
+    assert!(with(|s| s.numbers.charges[5] = 2));
+    assert!(with(|s| s.numbers.slices[5] = 1_000));
+    assert!(with(|s| s.numbers.counts[12] = 65_535));
+    assert!(with(|s| s.tasks[6].wait.remaining = FOREVER));
     assert!(with(|s| s.tasks[6].wakeups = 1));
     assert!(with(|s| s.tasks[7].activations = 1));
     assert!(with(|s| s.tasks[7].suspended = 1));
@@ -76,55 +73,75 @@ fn harmless_changes() {
 
 #[test]
 fn levels_list_exactly_the_runnable_tasks_once_each() {
-    assert!(!with(|s| s.levels[LEVEL_5 + 1] = 0)); // 2 is missing
-    assert!(!with(|s| s.levels[LEVEL_5 + 1] = 1)); // 1 twice, 2 missing
-    assert!(!with(|s| s.levels[LEVEL_5 + 2] = 2)); // 2 twice
+    assert!(!with(|s| s.levels[5].places[1] = 0)); // 2 is missing
+    assert!(!with(|s| s.levels[5].places[1] = 1)); // 1 twice, 2 missing
+    assert!(!with(|s| s.levels[5].places[2] = 2)); // 2 twice
     for other in [3, 7, 8, 9, 10, 25, 255] {
-        assert!(!with(|s| s.levels[LEVEL_5 + 2] = other));
+        assert!(!with(|s| s.levels[5].places[2] = other));
     }
     assert!(!with(|s| s.tasks[1].priority = 6)); // in the wrong level
-    assert!(!with(|s| s.levels[6 * 24] = 1)); // in two levels
+    assert!(!with(|s| s.levels[6].places[0] = 1)); // in two levels
     assert!(!with(|s| s.tasks[1].suspended = 1)); // not runnable
     assert!(!with(|s| s.tasks[9].suspended = 0)); // runnable, not listed
 }
 
 #[test]
 fn semaphores_list_exactly_their_waiters_once_each() {
-    assert!(!with(|s| s.waits[SEMAPHORE_4 + 1] = 0));
-    assert!(!with(|s| s.waits[SEMAPHORE_4 + 1] = 3));
-    assert!(!with(|s| s.waits[SEMAPHORE_4 + 2] = 6));
+    assert!(!with(|s| s.waits[4].places[1] = 0));
+    assert!(!with(|s| s.waits[4].places[1] = 3));
+    assert!(!with(|s| s.waits[4].places[2] = 6));
     for other in [1, 7, 8, 9, 10, 25, 255] {
-        assert!(!with(|s| s.waits[SEMAPHORE_4 + 2] = other));
+        assert!(!with(|s| s.waits[4].places[2] = other));
     }
-    assert!(!with(|s| s.tasks[3].object = 12));
-    assert!(!with(|s| s.waits[12 * 24] = 6));
-    assert!(!with(|s| s.tasks[7].wait = 2));
+    assert!(!with(|s| s.tasks[3].wait.object = 12));
+    assert!(!with(|s| s.waits[12].places[0] = 6));
+    assert!(!with(|s| s.tasks[7].wait.kind = 2));
 }
 
 #[test]
 fn places_past_the_end_hold_0() {
-    assert!(!with(|s| s.levels.swap(LEVEL_5 + 1, LEVEL_5 + 2))); // a hole
-    assert!(!with(|s| s.waits.swap(SEMAPHORE_4 + 1, SEMAPHORE_4 + 23)));
+    assert!(!with(|s| s.levels[5].places.swap(1, 2))); // a hole
+    assert!(!with(|s| s.waits[4].places.swap(1, 23)));
 }
 
 #[test]
 fn counts_and_numbers() {
-    assert!(!with(|s| s.counts[4] = 1)); // someone waits
-    assert!(!with(|s| s.maxima[12] = 2)); // count above maximum
-    assert!(!with(|s| s.maxima[4] = 0)); // waited on, not created
-    assert!(!with(|s| s.counts[1] = 1)); // not created, not all zeros
-    assert!(!with(|s| s.slices[9] = 1_001));
-    assert!(!with(|s| s.charges[5] = 3)); // at the slice
-    assert!(!with(|s| s.charges[9] = 1)); // no slice
-    assert!(!with(|s| s.slices[5] = 1)); // charge 1
-    assert!(!with(|s| s.slices[5] = 0));
+    assert!(!with(|s| s.numbers.counts[4] = 1)); // someone waits
+    assert!(!with(|s| s.numbers.maxima[12] = 2)); // count above maximum
+    assert!(!with(|s| s.numbers.maxima[4] = 0)); // waited on, not created
+    assert!(!with(|s| s.numbers.counts[1] = 1)); // not created, not all zeros
+    assert!(!with(|s| s.numbers.slices[9] = 1_001));
+    assert!(!with(|s| s.numbers.charges[5] = 3)); // at the slice
+    assert!(!with(|s| s.numbers.charges[9] = 1)); // no slice
+    assert!(!with(|s| s.numbers.slices[5] = 1)); // charge 1
+    assert!(!with(|s| s.numbers.slices[5] = 0));
+}
+
+/// Each of these would pass by its lower 16 bits.
+#[test]
+fn numbers_are_looked_at_whole() {
+    for more in [65_536, 1 << 24, u32::MAX << 16] {
+        assert!(!with(|s| s.numbers.slices[5] += more));
+        assert!(!with(|s| s.numbers.slices[9] = more));
+        assert!(!with(|s| s.numbers.charges[5] += more));
+        assert!(!with(|s| s.numbers.charges[9] = more));
+        assert!(!with(|s| s.numbers.counts[4] = more));
+        assert!(!with(|s| s.numbers.counts[12] += more));
+        assert!(!with(|s| s.numbers.maxima[1] = more));
+        assert!(!with(|s| s.numbers.maxima[4] += more));
+        assert!(!with(|s| s.numbers.maxima[12] = more + 3)); // at the count
+        assert!(!with(|s| (s.numbers.counts[12], s.numbers.maxima[12]) = (more, more)));
+    }
+    assert!(!with(|s| s.numbers.maxima[12] = u32::MAX));
+    assert!(!with(|s| s.numbers.counts[12] = u32::MAX));
+    assert!(!with(|s| s.numbers.counts[12] = 65_536));
 }
 
 #[test]
 fn task_records() {
-    assert!(!with(|s| s.tasks[3].remaining = 0)); // a waiter without ticks
+    assert!(!with(|s| s.tasks[3].wait.remaining = 0)); // a waiter without ticks
     assert!(!with(|s| s.tasks[3].code = 4)); // a waiter with a code
-    assert!(!with(|s| s.tasks[1].remaining = 1)); // ticks without a wait
+    assert!(!with(|s| s.tasks[1].wait.remaining = 1)); // ticks without a wait
     assert!(!with(|s| s.tasks[7].wakeups = 1)); // a sleeper with a wakeup
     for t in [1, 3, 9] {
         assert!(!with(|s| s.tasks[t].wakeups = 2));
@@ -132,7 +149,7 @@ fn task_records() {
         assert!(!with(|s| s.tasks[t].active = 2));
         assert!(!with(|s| s.tasks[t].active = 0));
         assert!(!with(|s| s.tasks[t].suspended = 2));
-        assert!(!with(|s| s.tasks[t].wait = 3));
+        assert!(!with(|s| s.tasks[t].wait.kind = 3));
         assert!(!with(|s| s.tasks[t].base = 0));
         assert!(!with(|s| s.tasks[t].base = 31));
         assert!(!with(|s| s.tasks[t].priority = 0));
@@ -141,9 +158,9 @@ fn task_records() {
     for code in [1, 3, 5, 9, 12, 246, 252] {
         assert!(!with(|s| s.tasks[1].code = code));
     }
-    assert!(!with(|s| s.tasks[7].object = 4)); // a sleeper with an object
-    assert!(!with(|s| s.tasks[1].object = 4));
-    assert!(!with(|s| s.tasks[3].object = 13));
+    assert!(!with(|s| s.tasks[7].wait.object = 4)); // a sleeper with an object
+    assert!(!with(|s| s.tasks[1].wait.object = 4));
+    assert!(!with(|s| s.tasks[3].wait.object = 13));
 }
 
 #[test]
@@ -156,9 +173,9 @@ fn dormant_tasks_and_tasks_not_created() {
         assert!(!with(|s| s.tasks[t].wakeups = 1));
         assert!(!with(|s| s.tasks[t].activations = 1));
         assert!(!with(|s| s.tasks[t].code = 4));
-        assert!(!with(|s| s.tasks[t].remaining = 1));
-        assert!(!with(|s| s.tasks[t].wait = 1));
-        assert!(!with(|s| s.tasks[t].object = 4));
+        assert!(!with(|s| s.tasks[t].wait.remaining = 1));
+        assert!(!with(|s| s.tasks[t].wait.kind = 1));
+        assert!(!with(|s| s.tasks[t].wait.object = 4));
     }
     assert!(!with(|s| s.tasks[10].priority = 1));
     assert!(with(|s| s.tasks[10] = Task { base: 30, priority: 30, ..Task::NONE }));
@@ -169,9 +186,11 @@ fn dormant_tasks_and_tasks_not_created() {
 fn place_0_of_every_table_is_all_zeros() {
     let queue_ends = [TABLES[0] + 23, TABLES[1] + 23];
     for slot in (0..TASK_FIELDS.len()).chain(TABLES).chain(queue_ends) {
-        let mut state = sample();
-        slots::set(&mut state, slot, 1);
-        assert!(!is_sound(&state), "{}", slots::name(slot));
+        for bit in 0..slots::width(slot) {
+            let mut state = sample();
+            slots::set(&mut state, slot, 1 << bit);
+            assert!(!is_sound(&state), "{}, bit {bit}", slots::name(slot));
+        }
     }
     assert!(!with(|s| s.tasks[0] = s.tasks[8]));
 }

@@ -5,8 +5,10 @@ use peer::layout::{call, State};
 use peer::services::*;
 use peer::sound::is_sound;
 
-const FLAG_3: usize = (3 + 12) * 24;
-const FLAG_5: usize = (5 + 12) * 24;
+/// The queues of the flags, behind those of the semaphores.
+const FLAG_3: usize = 3 + 12;
+const FLAG_5: usize = 5 + 12;
+const FLAG_6: usize = 6 + 12;
 
 /// Flag 3, neither, bits 8: 20 waits for 5 AND, then 21 for 2 OR. Flag 5, SINGLE and CLR, bits 1: 22 waits for 3 AND.
 /// Flag 6, SINGLE, bits 7: nobody. 23 runs, with bits 16 handed over. 24 is dormant.
@@ -40,68 +42,69 @@ fn with(change: impl FnOnce(&mut State)) -> bool {
 fn sound_as_it_is_and_after_harmless_changes() {
     assert!(with(|_| {}));
     assert_eq!(sample().tasks[23].handed, 16);
-    assert!(with(|s| s.waits.swap(FLAG_3, FLAG_3 + 1)));
+    assert!(with(|s| s.waits[FLAG_3].places.swap(0, 1)));
     assert!(with(|s| s.tasks[23].handed = u32::MAX));
-    assert!(with(|s| s.tasks[20].pattern = 9)); // 8 is set, 1 is not, and it waits for both
-    assert!(with(|s| s.tasks[21].mode = 1));
+    assert!(with(|s| s.tasks[20].wait.pattern = 9)); // 8 is set, 1 is not, and it waits for both
+    assert!(with(|s| s.tasks[21].wait.mode = 1));
     assert!(with(|s| s.tasks[20].wakeups = 1));
-    assert!(with(|s| s.bits[3] = 0x8000_0008));
-    assert!(with(|s| s.bits[6] = 0));
+    assert!(with(|s| s.numbers.bits[3] = 0x8000_0008));
+    assert!(with(|s| s.numbers.bits[6] = 0));
     for attributes in [1, 2, 4] {
-        assert!(with(|s| s.attributes[5] = attributes));
-        assert!(with(|s| s.attributes[6] = attributes));
-        assert!(with(|s| s.attributes[8] = attributes)); // created, and nothing else of it
+        assert!(with(|s| s.numbers.attributes[5] = attributes));
+        assert!(with(|s| s.numbers.attributes[6] = attributes));
+        assert!(with(|s| s.numbers.attributes[8] = attributes)); // created, and nothing else of it
     }
 }
 
 #[test]
 fn numbers_of_a_flag() {
-    for attributes in [3, 5, 6, 255] {
-        assert!(!with(|s| s.attributes[6] = attributes));
+    for attributes in [3, 5, 6, 255, 256, 257, 258, 260, 65_537, 1 << 31, u32::MAX] {
+        assert!(!with(|s| s.numbers.attributes[6] = attributes));
     }
-    assert!(!with(|s| s.attributes[6] = 0)); // not created, and bits
-    assert!(!with(|s| s.bits[1] = 1));
-    assert!(!with(|s| s.attributes[3] = 0)); // waited on, not created
-    assert!(!with(|s| (s.attributes[5], s.bits[5]) = (0, 0)));
-    assert!(!with(|s| s.attributes[0] = 1));
-    assert!(!with(|s| s.bits[0] = 1));
+    assert!(!with(|s| s.numbers.attributes[8] = 256)); // nothing else of it, and 0 in its lower 8 bits
+    assert!(!with(|s| s.numbers.attributes[6] = 0)); // not created, and bits
+    assert!(!with(|s| s.numbers.bits[1] = 1));
+    assert!(!with(|s| s.numbers.attributes[3] = 0)); // waited on, not created
+    assert!(!with(|s| (s.numbers.attributes[5], s.numbers.bits[5]) = (0, 0)));
+    assert!(!with(|s| s.numbers.attributes[0] = 1));
+    assert!(!with(|s| s.numbers.bits[0] = 1));
 }
 
 #[test]
 fn one_waiter_at_most_on_single() {
     for attributes in [2, 4] {
-        assert!(!with(|s| s.attributes[3] = attributes));
+        assert!(!with(|s| s.numbers.attributes[3] = attributes));
     }
 }
 
 #[test]
 fn none_is_met_already() {
-    assert!(!with(|s| s.bits[3] = 10)); // 21 asks for any of 2
-    assert!(!with(|s| s.bits[3] = 13)); // 20 asks for all of 5
-    assert!(with(|s| s.bits[3] = 9));
-    assert!(!with(|s| s.tasks[21].pattern = 8));
-    assert!(!with(|s| s.tasks[20].pattern = 8));
-    assert!(!with(|s| s.tasks[22].mode = 0));
-    assert!(!with(|s| s.bits[5] = u32::MAX));
+    assert!(!with(|s| s.numbers.bits[3] = 10)); // 21 asks for any of 2
+    assert!(!with(|s| s.numbers.bits[3] = 13)); // 20 asks for all of 5
+    assert!(with(|s| s.numbers.bits[3] = 9));
+    assert!(!with(|s| s.tasks[21].wait.pattern = 8));
+    assert!(!with(|s| s.tasks[20].wait.pattern = 8));
+    assert!(!with(|s| s.tasks[22].wait.mode = 0));
+    assert!(!with(|s| s.numbers.bits[5] = u32::MAX));
 }
 
 #[test]
 fn flags_list_exactly_their_waiters_once_each() {
-    assert!(!with(|s| s.waits[FLAG_3 + 1] = 0));
-    assert!(!with(|s| s.waits[FLAG_3 + 1] = 20));
-    assert!(!with(|s| s.waits[FLAG_3 + 2] = 21));
+    assert!(!with(|s| s.waits[FLAG_3].places[1] = 0));
+    assert!(!with(|s| s.waits[FLAG_3].places[1] = 20));
+    assert!(!with(|s| s.waits[FLAG_3].places[2] = 21));
     for other in [1, 22, 23, 24, 25, 255] {
-        assert!(!with(|s| s.waits[FLAG_3 + 2] = other));
+        assert!(!with(|s| s.waits[FLAG_3].places[2] = other));
     }
-    assert!(!with(|s| s.waits.swap(FLAG_3 + 1, FLAG_3 + 2))); // a hole
-    assert!(!with(|s| s.waits.swap(FLAG_5, FLAG_5 + 24))); // in the row of flag 6
-    assert!(!with(|s| s.waits.swap(FLAG_5, 5 * 24))); // in the row of semaphore 5
-    assert!(!with(|s| s.tasks[22].object = 6));
-    assert!(!with(|s| s.tasks[22].wait = 2));
-    assert!(!with(|s| s.tasks[20].wait = 1));
-    assert!(!with(|s| s.tasks[20].wait = 4));
+    assert!(!with(|s| s.waits[FLAG_3].places.swap(1, 2))); // a hole
+    assert!(!with(|s| s.waits.swap(FLAG_5, FLAG_6))); // in the row of flag 6
+    assert!(!with(|s| s.waits.swap(FLAG_5, 5))); // in the row of semaphore 5
+    assert!(!with(|s| s.tasks[22].wait.object = 6));
+    assert!(!with(|s| s.tasks[22].wait.kind = 2));
+    assert!(!with(|s| s.tasks[20].wait.kind = 1));
+    assert!(!with(|s| s.tasks[20].wait.kind = 4));
     for object in [0, 9, 12, 15, 255] {
-        assert!(!with(|s| s.tasks[20].object = object));
+        assert!(!with(|s| s.tasks[20].wait.object = object));
     }
 }
 
@@ -109,14 +112,14 @@ fn flags_list_exactly_their_waiters_once_each() {
 fn records() {
     for t in [20, 21, 22] {
         assert!(!with(|s| s.tasks[t].handed = 1)); // during a wait
-        assert!(!with(|s| s.tasks[t].pattern = 0));
-        assert!(!with(|s| s.tasks[t].mode = 2));
-        assert!(!with(|s| s.tasks[t].remaining = 0));
+        assert!(!with(|s| s.tasks[t].wait.pattern = 0));
+        assert!(!with(|s| s.tasks[t].wait.mode = 2));
+        assert!(!with(|s| s.tasks[t].wait.remaining = 0));
         assert!(!with(|s| s.tasks[t].code = 4));
     }
     for t in [0, 1, 23, 24] {
-        assert!(!with(|s| s.tasks[t].pattern = 1)); // outside a flag wait
-        assert!(!with(|s| s.tasks[t].mode = 1));
+        assert!(!with(|s| s.tasks[t].wait.pattern = 1)); // outside a flag wait
+        assert!(!with(|s| s.tasks[t].wait.mode = 1));
     }
     for t in [0, 1, 24] {
         assert!(!with(|s| s.tasks[t].handed = 1)); // not created, or dormant

@@ -64,7 +64,7 @@ pub fn check() {
             assert!(is_sound(next), "after {one}");
             state = next;
         }
-        state.levels[0] = 1;
+        state.levels[0].places[0] = 1;
         assert!(!is_sound(state));
         let one = Call::of(peer::services::TICK, 0, 0, 0);
         assert_eq!(call(state, &one), layout::call(&state, one));
