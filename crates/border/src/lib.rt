@@ -2,7 +2,7 @@
 // A number that names nothing is WRONG_PARAM; a number that the service does not take is not looked at. Rests on services and the kernel.
 ghost use mathlib.Core.Path.{_≡_};
 ghost use Rattle.model.specs.Code.{number};
-ghost use Rattle.border.specs.Border.{contextOf, answered, unknown, replyOf, reply};
+ghost use Rattle.border.specs.Border.{contextOf, placeOf, meant, reply};
 use model::Call;
 use model::Code;
 use model::Context;
@@ -66,7 +66,7 @@ fn place_of(from: From) -> Context
 fn meant(from: From, asked: Asked) -> Call
     ensures { λ r. ⌜ r ≡ meant from asked ⌝ }
 {
-    let From::Known(_) = from else {
+    let From::Known(_context) = from else {
         return Call::TaskDelete { task: 0 };
     };
     let Asked::Named(call) = asked else {
