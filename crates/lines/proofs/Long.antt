@@ -11,7 +11,7 @@ use Rattle.text.specs.declared.number.Number.the-variants.{Digits, NoNumber}
 use Rattle.text.specs.Bytes.{bytes, begins}
 use Rattle.text.proofs.Reading.{cond-by}
 use Rattle.model.specs.declared.Context.{Context}
-use Rattle.model.specs.Services.{Service, tasks, system, semaphores, events, services, service}
+use Rattle.model.specs.Services.{Service, tasks, system, semaphores, flags, services, service}
 use Rattle.services.specs.declared.names.Name.{Name}
 use Rattle.services.specs.declared.names.Name.the-variants.{Known, Unknown}
 use Rattle.services.specs.Names.{label, nameIn, nameOf}
@@ -69,7 +69,7 @@ name-among (x ∷ xs) t k s =
     (λ e. leb→le 13 (length (label x)) (both-left (leb 13 (length (label x))) (long xs) t)) (name-among xs (both-right (leb 13 (length (label x))) (long xs) t) (k + 1) s)
 
 pub name-has : (s : List ℕ) → NameHas (nameOf s)
-unfolding nameOf services tasks system semaphores events long label
+unfolding nameOf services tasks system semaphores flags long label
 name-has s = name-among services tt 1 s
 
 pub comma-has : (used : Bool) (s : List ℕ) → NumberHas (commaField used s)

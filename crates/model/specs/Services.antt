@@ -9,9 +9,9 @@ use Rattle.model.specs.declared.Context.{Context}
 use Rattle.model.specs.declared.Context.the-variants.{T, I}
 use Rattle.model.specs.declared.Call.{Call}
 use Rattle.model.specs.declared.Call.the-variants.{TaskCreate, TaskDelete, TaskActivate, TaskIactivate, TaskExit, TaskTerminate, TaskSuspend, TaskResume, TaskSleep, TaskWakeup, TaskIwakeup, TaskReleaseWait, TaskIreleaseWait, TaskChangePriority}
-use Rattle.model.specs.declared.Call.the-variants.{SysTsliceTicks, TickIntProcessing, SemCreate, SemDelete, SemSignal, SemIsignal, SemAcquire, SemPolling, SemIpolling, Event}
-use Rattle.model.specs.declared.Event as Events
-use Rattle.model.specs.declared.Event.the-variants.{Create, Delete, Set, Iset, Clear, Iclear, Wait, WaitPolling, Iwait}
+use Rattle.model.specs.declared.Call.the-variants.{SysTsliceTicks, TickIntProcessing, SemCreate, SemDelete, SemSignal, SemIsignal, SemAcquire, SemPolling, SemIpolling, OnFlag}
+use Rattle.model.specs.declared.FlagService.{FlagService}
+use Rattle.model.specs.declared.FlagService.the-variants.{Create, Delete, Set, Iset, Clear, Iclear, Wait, WaitPolling, Iwait}
 
 -- what a number of a call is
 pub data Field : Type 0 where
@@ -69,21 +69,21 @@ semaphores =
     ∷ []
 
 -- those on event flags
-unfoldable pub events : List Service
-events =
-    row "tn_event_create" T (aFlag ∷ anAttribute ∷ someBits ∷ []) (λ a b c d. Event a (Create b c))
-    ∷ row "tn_event_delete" T (aFlag ∷ []) (λ a b c d. Event a Delete)
-    ∷ row "tn_event_set" T (aFlag ∷ aPattern ∷ []) (λ a b c d. Event a (Set b))
-    ∷ row "tn_event_iset" I (aFlag ∷ aPattern ∷ []) (λ a b c d. Event a (Iset b))
-    ∷ row "tn_event_clear" T (aFlag ∷ aPattern ∷ []) (λ a b c d. Event a (Clear b))
-    ∷ row "tn_event_iclear" I (aFlag ∷ aPattern ∷ []) (λ a b c d. Event a (Iclear b))
-    ∷ row "tn_event_wait" T (aFlag ∷ aPattern ∷ aMode ∷ aTimeout ∷ []) (λ a b c d. Event a (Wait b c d))
-    ∷ row "tn_event_wait_polling" T (aFlag ∷ aPattern ∷ aMode ∷ []) (λ a b c d. Event a (WaitPolling b c))
-    ∷ row "tn_event_iwait" I (aFlag ∷ aPattern ∷ aMode ∷ []) (λ a b c d. Event a (Iwait b c))
+unfoldable pub flags : List Service
+flags =
+    row "tn_event_create" T (aFlag ∷ anAttribute ∷ someBits ∷ []) (λ a b c d. OnFlag a (Create b c))
+    ∷ row "tn_event_delete" T (aFlag ∷ []) (λ a b c d. OnFlag a Delete)
+    ∷ row "tn_event_set" T (aFlag ∷ aPattern ∷ []) (λ a b c d. OnFlag a (Set b))
+    ∷ row "tn_event_iset" I (aFlag ∷ aPattern ∷ []) (λ a b c d. OnFlag a (Iset b))
+    ∷ row "tn_event_clear" T (aFlag ∷ aPattern ∷ []) (λ a b c d. OnFlag a (Clear b))
+    ∷ row "tn_event_iclear" I (aFlag ∷ aPattern ∷ []) (λ a b c d. OnFlag a (Iclear b))
+    ∷ row "tn_event_wait" T (aFlag ∷ aPattern ∷ aMode ∷ aTimeout ∷ []) (λ a b c d. OnFlag a (Wait b c d))
+    ∷ row "tn_event_wait_polling" T (aFlag ∷ aPattern ∷ aMode ∷ []) (λ a b c d. OnFlag a (WaitPolling b c))
+    ∷ row "tn_event_iwait" I (aFlag ∷ aPattern ∷ aMode ∷ []) (λ a b c d. OnFlag a (Iwait b c))
     ∷ []
 
 unfoldable pub services : List Service
-services = tasks ++ (system ++ (semaphores ++ events))
+services = tasks ++ (system ++ (semaphores ++ flags))
 
 abbrev none : Service
 none = row "" I [] (λ a b c d. TickIntProcessing)
@@ -94,16 +94,16 @@ service zero = none
 service (suc k) = getD services k none
 
 -- ---- which service a call is of
-abbrev pub eventNumber : Events.Event → ℕ
-eventNumber (Create a b) = 24
-eventNumber Delete = 25
-eventNumber (Set b) = 26
-eventNumber (Iset b) = 27
-eventNumber (Clear b) = 28
-eventNumber (Iclear b) = 29
-eventNumber (Wait p m d) = 30
-eventNumber (WaitPolling p m) = 31
-eventNumber (Iwait p m) = 32
+abbrev pub flagNumber : FlagService → ℕ
+flagNumber (Create a b) = 24
+flagNumber Delete = 25
+flagNumber (Set b) = 26
+flagNumber (Iset b) = 27
+flagNumber (Clear b) = 28
+flagNumber (Iclear b) = 29
+flagNumber (Wait p m d) = 30
+flagNumber (WaitPolling p m) = 31
+flagNumber (Iwait p m) = 32
 
 abbrev pub serviceNumber : Call → ℕ
 serviceNumber (TaskCreate t p o) = 1
@@ -129,7 +129,7 @@ serviceNumber (SemIsignal m) = 20
 serviceNumber (SemAcquire m d) = 21
 serviceNumber (SemPolling m) = 22
 serviceNumber (SemIpolling m) = 23
-serviceNumber (Event f e) = eventNumber e
+serviceNumber (OnFlag f e) = flagNumber e
 
 -- ---- the context test: a call comes from the context that its service belongs to
 abbrev pub same : Context → Context → Bool

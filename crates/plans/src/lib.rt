@@ -1,18 +1,18 @@
 // Every call: which records it looks at, whether the context is its own, and its plan.
-// Each function is a definition of model/specs/Call or Services, for every value; it rests on plans_task, plans_semaphore and plans_event.
+// Each function is a definition of model/specs/Call or Services, for every value; it rests on plans_task, plans_semaphore and plans_flag.
 ghost use mathlib.Core.Path.{_≡_};
 ghost use Rattle.model.specs.declared.Context.the-variants.{I};
 ghost use Rattle.model.specs.Call.{named, subject, plan};
 ghost use Rattle.model.specs.Services.{isMine};
 use model::Call;
 use model::Context;
-use model::Event;
 use model::Flag;
+use model::FlagService;
 use model::Plan;
 use model::Semaphore;
 use model::Task;
-use plans_event::event_plan;
-use plans_event::event_subject;
+use plans_flag::flag_plan;
+use plans_flag::flag_subject;
 use plans_semaphore::acquire;
 use plans_semaphore::polling;
 use plans_semaphore::sem_create;
@@ -60,7 +60,7 @@ pub fn named(a: Call) -> usize
         Call::SemAcquire { semaphore, .. } => semaphore as usize,
         Call::SemPolling { semaphore } => semaphore as usize,
         Call::SemIpolling { semaphore } => semaphore as usize,
-        Call::Event { flag, .. } => flag as usize,
+        Call::OnFlag { flag, .. } => flag as usize,
     }
 }
 
@@ -92,18 +92,18 @@ pub fn subject(a: Call, run: u8, first: u8, head: u8) -> usize
         Call::SemAcquire { .. } => run as usize,
         Call::SemPolling { .. } => 0,
         Call::SemIpolling { .. } => 0,
-        Call::Event { service, .. } => event_subject(service, run, head) as usize,
+        Call::OnFlag { service, .. } => flag_subject(service, run, head) as usize,
     }
 }
 
 // A service of flags belongs to interrupts.
-fn is_event_inside(service: Event) -> bool
-    ensures { λ r. ⌜ r ≡ isMine I (Call.Event 0 service) ⌝ }
+fn is_flag_inside(service: FlagService) -> bool
+    ensures { λ r. ⌜ r ≡ isMine I (Call.OnFlag 0 service) ⌝ }
 {
     match service {
-        Event::Iset { .. } => true,
-        Event::Iclear { .. } => true,
-        Event::Iwait { .. } => true,
+        FlagService::Iset { .. } => true,
+        FlagService::Iclear { .. } => true,
+        FlagService::Iwait { .. } => true,
         _ => false,
     }
 }
@@ -119,7 +119,7 @@ fn is_inside(a: Call) -> bool
         Call::TickIntProcessing => true,
         Call::SemIsignal { .. } => true,
         Call::SemIpolling { .. } => true,
-        Call::Event { service, .. } => is_event_inside(service),
+        Call::OnFlag { service, .. } => is_flag_inside(service),
         _ => false,
     }
 }
@@ -171,6 +171,6 @@ pub fn plan(mine: bool, a: Call, run: u8, k: Task, x: Semaphore, y: Flag) -> Pla
         Call::SemAcquire { semaphore, timeout } => acquire(mine, semaphore, timeout, run, k, x),
         Call::SemPolling { semaphore } => polling(mine, semaphore, x),
         Call::SemIpolling { semaphore } => polling(mine, semaphore, x),
-        Call::Event { flag, service } => event_plan(mine, flag, service, run, k, y),
+        Call::OnFlag { flag, service } => flag_plan(mine, flag, service, run, k, y),
     }
 }

@@ -99,7 +99,7 @@ returns-23 c = rw (c .polling2 .ensures, c .before .before .a21 .given .1)
 
 returns-24 : tie.Need-returns-24
 unfolding plan
-returns-24 c = rw (c .event-plan .ensures, c .before .before .a22 .given .1)
+returns-24 c = rw (c .flag-plan .ensures, c .before .before .a22 .given .1)
 
 pub plan-spec : {M : Type 1} → statement M
 plan-spec =

@@ -74,7 +74,7 @@ returns-23 : tie.Need-returns-23
 returns-23 c = rw (c .enum-told11 .given .1)
 
 returns-24 : tie.Need-returns-24
-returns-24 c = rw (c .event-subject .ensures, c .before .before .a13 .given .1)
+returns-24 c = rw (c .flag-subject .ensures, c .before .before .a13 .given .1)
 
 pub subject-spec : {M : Type 1} → statement M
 subject-spec =
