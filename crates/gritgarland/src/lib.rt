@@ -1,5 +1,5 @@
 // Every entry that callers in other languages have, each a thin relay with the promise of what it relays.
-// include/gritgarland.h declares them. Rests on the border, the test of soundness, the runner and, for what a refusal leaves, kept.
+// include/gritgarland.h declares them. Rests on the border, the test of soundness, the runner and, for what a refusal leaves, soundness.
 ghost use mathlib.Core.Path.{_≡_};
 ghost use mathlib.Core.Bool.{true};
 ghost use lib.ListN.{length};

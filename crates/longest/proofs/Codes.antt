@@ -1,5 +1,5 @@
 -- The code and the running task that a call answers in a sound state have at most two bytes each as text, and three in all while nobody runs.
--- It rests on codes having one digit (ways), on who runs in a sound state, and on refusals changing nothing (kept).
+-- It rests on codes having one digit (ways), on who runs in a sound state, and on refusals changing nothing (soundness).
 use mathlib.Core.Path.{_≡_, refl, sym, ap}
 use mathlib.Core.Bool.{Bool, true, false, false≢true}
 use Prim.Native.Nat.{suc, _+_, _≤_, _<_}
@@ -19,8 +19,8 @@ use Rattle.model.specs.Call.{step}
 use Rattle.model.specs.Sound.{Sound}
 use Rattle.ways.proofs.Done.{oneDigit}
 use Rattle.ways.proofs.Ways.{step-digit}
-use Rattle.kept.proofs.Kept.{sound-stays-sound, refused-is-unchanged}
-use Rattle.kept.proofs.Running.{runner}
+use Rattle.soundness.proofs.Soundness.{sound-stays-sound, refused-is-unchanged}
+use Rattle.soundness.proofs.Running.{runner}
 use Rattle.walk.specs.Rows.{signed}
 use Rattle.runner.proofs.Widths.{width-most}
 

@@ -24,7 +24,7 @@ use Rattle.model.specs.Service.{create, exit}
 use Rattle.model.specs.Effect.{carried}
 use Rattle.model.specs.Call.{plan, planned, step, call}
 use Rattle.model.specs.Sound.{Sound}
-use Rattle.kept.proofs.Kept.{fresh-is-sound, sound-stays-sound}
+use Rattle.soundness.proofs.Soundness.{fresh-is-sound, sound-stays-sound}
 use Rattle.lines.specs.declared.line.Line.the-variants.{Reads}
 use Rattle.lines.specs.declared.line.Header.the-variants.{Ends}
 use Rattle.lines.specs.declared.fields.End.the-variants.{Closes}

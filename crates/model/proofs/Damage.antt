@@ -126,7 +126,7 @@ noneIsSound [] = true
 noneIsSound (s ∷ rest) = not (Test.isSound s) && noneIsSound rest
 
 pub tells : T (Test.isSound sound && noneIsSound damaged)
-unfolding sound damaged recorded levelled queued tabled shortened narrowed withCode withObject withActive withAsk noneIsSound State.moved State.counted State.flagged State.sliced Row.place Row.gap Row.joined Row.left Row.row Row.withRow Row.leftRow Row.joinedRow Row.relisted Record.levelOf Record.rowOf Flag.areKept Flag.isMet Flag.flagRow Test.below Test.everyRow Test.occ Test.zeros Test.listsOnly Test.isFiled Test.listsExactly Test.isTaskSound Test.isRateSound Test.isCountSound Test.isFlagSound Test.isUnmet Test.isSound Plan.within
+unfolding sound damaged recorded levelled queued tabled shortened narrowed withCode withObject withActive withAsk noneIsSound State.moved State.counted State.flagged State.sliced Row.place Row.gap Row.joined Row.left Row.row Row.withRow Row.leftRow Row.joinedRow Row.relisted Record.levelOf Record.rowOf Flag.isFlagAttributes Flag.isMet Flag.flagRow Test.below Test.everyRow Test.occ Test.zeros Test.listsOnly Test.isFiled Test.listsExactly Test.isTaskSound Test.isRateSound Test.isCountSound Test.isFlagSound Test.isUnmet Test.isSound Plan.within
 tells = tt
 
 -- any state that fails the test gets UNSOUND and task 0, and comes back as it was

@@ -9,7 +9,7 @@ use lib.Dec.{T}
 use lib.ListN.{length, List·getD-eq-default}
 use Rattle.model.specs.declared.State.{State}
 use Rattle.model.specs.Row.{firstOf, secondOf}
-use Rattle.model.specs.Flag.{areKept, isSingle, isMet, flagRow}
+use Rattle.model.specs.Flag.{isFlagAttributes, isSingle, isMet, flagRow}
 use Rattle.model.specs.Task.{noTask, levelOf, rowOf}
 use Rattle.model.specs.State.{task, slice, charge, count, maximum, attribute, bitsOf}
 use Rattle.model.specs.Test.{listsExactly, isTaskSound, isRateSound, isCountSound, isFlagSound, isUnmet, isSized, isOrigin, isSound}
@@ -131,11 +131,11 @@ module _ (s : State) where
     sound-waits : Lists (s .waits) 21 (λ t. rowOf (task s t))
     sound-waits = lists-of-test (s .waits) 21 (λ t. rowOf (task s t)) (p .sized .waits#) (λ t h. ap rowOf (no-task t h) ∙ row-none) (p .waits)
 
-    each-flag : (f : ℕ) → T (areKept (attribute s f)) × (attribute s f ≡ 0 → bitsOf s f ≡ 0)
-    unfolding areKept
-    each-flag = everywhere (λ f. T (areKept (attribute s f)) × (attribute s f ≡ 0 → bitsOf s f ≡ 0)) 9 past (λ f h. (p .flags f h .0, λ e. p .flags f h .1 .0 e .0))
+    each-flag : (f : ℕ) → T (isFlagAttributes (attribute s f)) × (attribute s f ≡ 0 → bitsOf s f ≡ 0)
+    unfolding isFlagAttributes
+    each-flag = everywhere (λ f. T (isFlagAttributes (attribute s f)) × (attribute s f ≡ 0 → bitsOf s f ≡ 0)) 9 past (λ f h. (p .flags f h .0, λ e. p .flags f h .1 .0 e .0))
       where
-        past : (f : ℕ) → 9 ≤ f → T (areKept (attribute s f)) × (attribute s f ≡ 0 → bitsOf s f ≡ 0)
+        past : (f : ℕ) → 9 ≤ f → T (isFlagAttributes (attribute s f)) × (attribute s f ≡ 0 → bitsOf s f ≡ 0)
         past f h =
             let e = List·getD-eq-default (s .numbers .attributes) 0 {n = f} (omega (arith, p .sized .attributes#)) in
             let g = List·getD-eq-default (s .numbers .bits) 0 {n = f} (omega (arith, p .sized .bits#)) in

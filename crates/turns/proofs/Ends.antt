@@ -20,7 +20,7 @@ use Rattle.laws.proofs.Number.{same?}
 use Rattle.laws.proofs.Occ.{one-ne, occ-none, occ-cons}
 use Rattle.laws.proofs.Padded.{padded-rest, first-none}
 use Rattle.laws.proofs.Record.{row-waits}
-use Rattle.kept.proofs.Moved.{task-kept, task-moved, tasks-moved}
+use Rattle.soundness.proofs.Moved.{task-kept, task-moved, tasks-moved}
 use Rattle.turns.specs.Statements.{Ended}
 
 -- ---- a tick

@@ -12,8 +12,8 @@ use Rattle.model.specs.Task.{isRunnable}
 use Rattle.model.specs.State.{fresh, task, slice, charge, level}
 use Rattle.model.specs.Sound.{Sound}
 use Rattle.model.proofs.Words.{opened}
-use Rattle.kept.specs.Statements.{reached}
-use Rattle.kept.proofs.Kept.{fresh-is-sound, reached-is-sound}
+use Rattle.soundness.specs.Statements.{reached}
+use Rattle.soundness.proofs.Soundness.{fresh-is-sound, reached-is-sound}
 use Rattle.ways.specs.Kind.{terminate, setSlice}
 use Rattle.turns.specs.Statements.{placeIn, releases, Ended, HoldsBy, charges, Each, none, each, FirstBy, StaysRunnable, NotTerminated, KeepsPriority, SliceNotSet}
 use Rattle.turns.proofs.Words.{byTask, byInterrupt, aTick}

@@ -17,7 +17,7 @@ use Rattle.model.specs.State.{slice, charge, level, moved}
 use Rattle.model.specs.Sound.{SoundTask}
 use Rattle.laws.proofs.Padded.{both}
 use Rattle.ways.proofs.Tests.{some-of}
-use Rattle.kept.proofs.Records.{level-live, live-made}
+use Rattle.soundness.proofs.Records.{level-live, live-made}
 use Rattle.turns.proofs.Still.{Keyed, Still}
 
 pub on-levels : Keyed levelOf (λ s. s .levels)

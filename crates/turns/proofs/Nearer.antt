@@ -22,15 +22,15 @@ use Rattle.model.specs.Effect.{stopped, toldAll, deleted, toldFlag, charged, ti
 use Rattle.model.specs.Test.{one}
 use Rattle.model.specs.Sound.{Sound}
 use Rattle.laws.proofs.Occ.{one-not}
-use Rattle.kept.specs.Statements.{stands}
-use Rattle.kept.proofs.Changes.{sound-withTime}
+use Rattle.soundness.specs.Statements.{stands}
+use Rattle.soundness.proofs.Changes.{sound-withTime}
 use Rattle.ways.specs.Kind as Kinds
 use Rattle.ways.specs.Kind.{Kind, setSlice, isTick}
 use Rattle.ways.specs.Entry.{Entry}
 use Rattle.ways.proofs.Done.{Done, Way, refuses, accepts}
 use Rattle.ways.proofs.Done.{Done as Ways}
 use Rattle.turns.proofs.Still.{tasks-charged, still-moved, still-stopped, still-told, still-lapsed}
-use Rattle.kept.proofs.Moved.{task-moved, numbers-moved, numbers-stopped, numbers-told, numbers-lapsed}
+use Rattle.soundness.proofs.Moved.{task-moved, numbers-moved, numbers-stopped, numbers-told, numbers-lapsed}
 use Rattle.turns.proofs.Levels.{on-levels, level-ended, level-told, level-aged, Nearer, nearer-still, nearer-then}
 use Rattle.turns.proofs.Charged.{low, long, runs-not, nearer-charged}
 

@@ -27,14 +27,14 @@ use Rattle.laws.proofs.Number.{same?}
 use Rattle.laws.proofs.Relisted.{row-relisted-from}
 use Rattle.laws.proofs.Occ.{one-eq, one-ne, one-not}
 use Rattle.laws.proofs.Record.{row-waits, flag-row}
-use Rattle.kept.proofs.Listed.{key-of, listed-in}
-use Rattle.kept.proofs.Told.{waiter-in, first-waits, no-waiter}
-use Rattle.kept.proofs.Running.{runner}
-use Rattle.kept.proofs.Changed.{change-row}
+use Rattle.soundness.proofs.Listed.{key-of, listed-in}
+use Rattle.soundness.proofs.Told.{waiter-in, first-waits, no-waiter}
+use Rattle.soundness.proofs.Running.{runner}
+use Rattle.soundness.proofs.Changed.{change-row}
 use Rattle.ways.specs.Kind as Kinds
 use Rattle.ways.specs.Kind.{Kind, forcedRelease, release, deletion, isReleaseOf}
 use Rattle.ways.specs.Entry.{Entry}
-use Rattle.kept.proofs.Moved.{task-moved}
+use Rattle.soundness.proofs.Moved.{task-moved}
 use Rattle.turns.specs.Statements.{Ended}
 use Rattle.turns.proofs.Places.{place-served}
 use Rattle.ways.proofs.Done.{Done, Way, refuses, accepts}

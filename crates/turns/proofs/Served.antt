@@ -14,7 +14,7 @@ use Rattle.model.specs.State.{waiters}
 use Rattle.model.specs.Call.{planned, step}
 use Rattle.model.specs.Test.{one}
 use Rattle.model.specs.Sound.{Sound}
-use Rattle.kept.proofs.Kept.{sound-stays-sound}
+use Rattle.soundness.proofs.Soundness.{sound-stays-sound}
 use Rattle.ways.specs.Kind.{kind}
 use Rattle.turns.specs.Statements as Say
 use Rattle.turns.specs.Statements.{next, isRelease, releases, WaitsOn, HoldsBy, WaitersAreServed}

@@ -18,7 +18,7 @@ use Rattle.model.specs.Call.{step}
 use Rattle.model.specs.Test.{one}
 use Rattle.model.specs.Sound.{Sound}
 use Rattle.laws.proofs.Number.{same?}
-use Rattle.kept.proofs.Kept.{sound-stays-sound}
+use Rattle.soundness.proofs.Soundness.{sound-stays-sound}
 use Rattle.turns.specs.Statements as Say
 use Rattle.turns.specs.Statements.{next, isCharged, charges, IsFirst, StaysRunnable, NotTerminated, KeepsPriority, SliceNotSet, Each, none, each, FirstBy, TurnsComeRound}
 use Rattle.turns.proofs.Places.{place-first}

@@ -12,13 +12,13 @@ use lib.Seq.{getD-set-same, getD-set-other, set-out, set-getD}
 use Rattle.model.specs.declared.Task.{Task}
 use Rattle.model.specs.declared.Numbers.{Numbers}
 use Rattle.model.specs.declared.State.{State}
-use Rattle.model.specs.Flag.{areKept, isSingle, isMet}
+use Rattle.model.specs.Flag.{isFlagAttributes, isSingle, isMet}
 use Rattle.model.specs.Task.{noTask, levelOf, rowOf}
 use Rattle.model.specs.State.{task, slice, count, maximum, attribute, bitsOf, moved, counted, flagged, sliced, withCharge, rotated, withTime}
 use Rattle.model.specs.Sound.{SoundTask, SoundLevels, SoundSemaphores, SoundFlags, Sound}
 use Rattle.laws.proofs.Number.{same?, below?}
-use Rattle.kept.proofs.Listed.{lists-relisted, lists-turned}
-use Rattle.kept.proofs.Moved.{task-moved, task-kept}
+use Rattle.soundness.proofs.Listed.{lists-relisted, lists-turned}
+use Rattle.soundness.proofs.Moved.{task-moved, task-kept}
 
 -- ---- what is read after a store
 -- what holds of the values stored in two tables of one length, and of the old ones, holds of what is read
@@ -146,7 +146,7 @@ sound-counted s m n v k some low top free = renumbered s (counted m n v s .numbe
 -- ---- a flag's numbers
 -- attributes a and bits b fit those who wait on flag f
 pub record FlagFits (s : State) (f a b : ℕ) : Type 0 where
-  pub kept : T (areKept a)
+  pub attributes : T (isFlagAttributes a)
   pub none : a ≡ 0 → b ≡ 0
   pub unmet : (t : ℕ) → rowOf (task s t) ≡ f + 12 → (1 ≤ a) × (isMet (task s t .wait .pattern) (task s t .wait .mode) b ≡ false)
   pub single : T (isSingle a) → (t u : ℕ) → rowOf (task s t) ≡ f + 12 → rowOf (task s u) ≡ f + 12 → t ≡ u
@@ -157,7 +157,7 @@ sound-flagged s f a b k some fits = renumbered s (flagged f a b s .numbers) k (k
   attributes# = length-set es f a ∙ g .attributes#;
   bits# = length-set bs f b ∙ g .bits#;
   unused = (stored (λ c. c ≡ 0) es f a 0 (λ e. absurd (omega arith)) (g .unused .0), stored (λ c. c ≡ 0) bs f b 0 (λ e. absurd (omega arith)) (g .unused .1));
-  attributes = λ i. stored (λ c. T (areKept c)) es f a i (λ e. fits .kept) (g .attributes i);
+  attributes = λ i. stored (λ c. T (isFlagAttributes c)) es f a i (λ e. fits .attributes) (g .attributes i);
   bits = λ i. stored-both (λ c d. c ≡ 0 → d ≡ 0) es bs f a b i same (λ e. fits .none) (g .bits i);
   unmet = λ i t low top e. stored-both (λ c d. (1 ≤ c) × (isMet (task s t .wait .pattern) (task s t .wait .mode) d ≡ false)) es bs f a b i same
       (λ z. fits .unmet t (e ∙ ap (λ n. n + 12) z)) (g .unmet i t low top e);

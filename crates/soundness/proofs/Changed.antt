@@ -12,7 +12,7 @@ use Rattle.model.specs.declared.Task.{Task}
 use Rattle.model.specs.declared.State.{State}
 use Rattle.model.specs.declared.News.{News}
 use Rattle.model.specs.Row.{firstOf}
-use Rattle.model.specs.Flag.{isAttributes, areKept, isSingle, isMet, flagRow}
+use Rattle.model.specs.Flag.{isAttributes, isFlagAttributes, isSingle, isMet, flagRow}
 use Rattle.model.specs.Task.{served, rowOf, asleep, onFlag, dormant, activated, created, waiting}
 use Rattle.model.specs.State.{task, attribute, bitsOf, flag, running}
 use Rattle.model.specs.Service.{wanted, isOccupied}
@@ -24,11 +24,11 @@ use Rattle.ways.proofs.Tests.{equals, none-of}
 use Rattle.ways.proofs.Done.{Named, given, runs, FlagMade, Change, Begins, sleeps, queues, asks, Reflag, Tell}
 use Rattle.ways.proofs.Done.Change.{creates, deletes, activates, countsActivation, suspends, resumes, usesWakeup, wakes, countsWakeup, prioritises}
 use Rattle.ways.proofs.Done.{Reflag as Reflags, Tell as Tells}
-use Rattle.kept.proofs.Changes.{MayWait, FlagFits}
-use Rattle.kept.proofs.Records.{WaitsAs, suspended-live, sound-created, sound-activated, sound-withPriority, sound-withSuspended, sound-withWakeups, sound-withActivations, sound-ended, sound-asleep, sound-queued, sound-asking}
-use Rattle.kept.proofs.Told.{may-none, may-same, no-waiter}
-use Rattle.kept.proofs.Running.{runner}
-use Rattle.kept.proofs.Effects.{Tellable}
+use Rattle.soundness.proofs.Changes.{MayWait, FlagFits}
+use Rattle.soundness.proofs.Records.{WaitsAs, suspended-live, sound-created, sound-activated, sound-withPriority, sound-withSuspended, sound-withWakeups, sound-withActivations, sound-ended, sound-asleep, sound-queued, sound-asking}
+use Rattle.soundness.proofs.Told.{may-none, may-same, no-waiter}
+use Rattle.soundness.proofs.Running.{runner}
+use Rattle.soundness.proofs.Effects.{Tellable}
 
 -- ---- numbers that a plan makes
 created-row : (p o : ℕ) → rowOf (created p o) ≡ 0
@@ -48,11 +48,11 @@ wanted-range p x low top h = go (eqb p 0) refl
     go false e = let some : p ≡ 0 → ⊥ = eqb-false p 0 e in (omega arith, h)
 
 -- attributes are kept plus 1
-are-kept : (a : ℕ) → T (isAttributes a) → T (areKept (a + 1))
-unfolding areKept
-are-kept a h = go (says-or (equals a 0) (says-or (equals a 1) (equals a 3)) .yields h)
+flag-attributes : (a : ℕ) → T (isAttributes a) → T (isFlagAttributes (a + 1))
+unfolding isFlagAttributes
+flag-attributes a h = go (says-or (equals a 0) (says-or (equals a 1) (equals a 3)) .yields h)
   where
-    go : (a ≡ 0) ⊎ ((a ≡ 1) ⊎ (a ≡ 3)) → T (areKept (a + 1))
+    go : (a ≡ 0) ⊎ ((a ≡ 1) ⊎ (a ≡ 3)) → T (isFlagAttributes (a + 1))
     go (inl e) = rw e tt
     go (inr (inl e)) = rw e tt
     go (inr (inr e)) = rw e tt
@@ -151,7 +151,7 @@ module _ {s : State} (k : Sound s) where
       → ((t : ℕ) → rowOf (task s t) ≡ f + 12 → isMet (task s t .wait .pattern) (task s t .wait .mode) (bitsOf s f) ≡ false → isMet (task s t .wait .pattern) (task s t .wait .mode) b ≡ false)
       → FlagFits s f (attribute s f) b
   rebits f b made less = record {
-    kept = k .flags .attributes f;
+    attributes = k .flags .attributes f;
     none = λ e. absurd (omega (arith, made .made));
     unmet = λ t e. let u = k .flags .unmet f t (made .low) (made .top) e in (u .0, less t e (u .1));
     single = λ one t u. k .flags .single f t u (made .low) (made .top) one;
@@ -161,7 +161,7 @@ module _ {s : State} (k : Sound s) where
   reflag-fits {f} (Reflags.creates a b low top h e) = (
     low,
     record {
-      kept = are-kept a h;
+      attributes = flag-attributes a h;
       none = λ e. absurd (omega arith);
       unmet = λ t z. absurd (omega (arith, k .flags .unmet f t low top z .0));
       single = λ one t u z. absurd (omega (arith, k .flags .unmet f t low top z .0));
@@ -172,10 +172,10 @@ module _ {s : State} (k : Sound s) where
       (made .low, rebits f _ made (λ t e. unmet-left (task s t .wait .pattern) (task s t .wait .mode) (attribute s f) (bitsOf s f) true (asks-some f t (made .low) e)))
 
   pub tell-fits : {f : ℕ} {w : News} {a b : ℕ} → FlagMade s f → Tell s f w a b → Tellable s f w a b
-  unfolding areKept
-  tell-fits made Tells.deletes = record { kept = tt; none = λ e. refl; unmet = λ x sound e stays. absurd stays; single = λ one. absurd one }
+  unfolding isFlagAttributes
+  tell-fits made Tells.deletes = record { attributes = tt; none = λ e. refl; unmet = λ x sound e stays. absurd stays; single = λ one. absurd one }
   tell-fits {f} made (Tells.sets b met) = record {
-    kept = k .flags .attributes f;
+    attributes = k .flags .attributes f;
     none = λ e. absurd (omega (arith, made .made));
     unmet = λ x sound e stays. (made .made, unmet-left (x .wait .pattern) (x .wait .mode) (attribute s f) b met (sound .asks (row-flag x sound f (made .low) e .0) .0) stays);
     single = λ one. one;

@@ -1,5 +1,5 @@
 -- What is proved of every call in every state: sound states stay sound, refused calls change nothing, and the first of the best level runs.
--- They speak of `Sound`, `step` and `call` of model, and are proved in proofs/Kept.
+-- They speak of `Sound`, `step` and `call` of model, and are proved in proofs/Soundness.
 use mathlib.Core.Path.{_≡_}
 use mathlib.Core.Bool.{true}
 use mathlib.Core.List.{List, [], _∷_}

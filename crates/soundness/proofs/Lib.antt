@@ -8,4 +8,4 @@ pub mod Running
 pub mod Changed
 pub mod Accepted
 pub mod Fresh
-pub mod Kept
+pub mod Soundness

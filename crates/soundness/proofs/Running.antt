@@ -16,9 +16,9 @@ use Rattle.model.specs.State.{task, running}
 use Rattle.model.specs.Test.{zeros, listsOnly, padded}
 use Rattle.model.specs.Sound.{Sound}
 use Rattle.laws.proofs.Number.{same?}
-use Rattle.kept.proofs.Listed.{key-first}
-use Rattle.kept.proofs.Changes.{task-in}
-use Rattle.kept.proofs.Records.{level-live}
+use Rattle.soundness.proofs.Listed.{key-first}
+use Rattle.soundness.proofs.Changes.{task-in}
+use Rattle.soundness.proofs.Records.{level-live}
 
 -- the best of n rows from row l on: nobody, or who stands first in row i
 pub data Best (ls : List Queue) (n l : ℕ) : ℕ → Type 0 where

@@ -21,11 +21,11 @@ use Rattle.ways.specs.Kind.{Kind}
 use Rattle.ways.specs.Entry.{Entry}
 use Rattle.ways.proofs.Done.{Way, refuses, accepts}
 use Rattle.ways.proofs.Ways.{way}
-use Rattle.kept.specs.Statements
-use Rattle.kept.specs.Statements.{FreshIsSound, SoundStaysSound, CallStaysSound, reached, ReachedIsSound, RefusedIsUnchanged, RefusedCallIsUnchanged, Runs, RunsFirst, AnswerRunsFirst}
-use Rattle.kept.proofs.Running.{Best, nobody, stands, best, row-empty}
-use Rattle.kept.proofs.Accepted.{sound-done}
-use Rattle.kept.proofs.Fresh.{sound-fresh}
+use Rattle.soundness.specs.Statements
+use Rattle.soundness.specs.Statements.{FreshIsSound, SoundStaysSound, CallStaysSound, reached, ReachedIsSound, RefusedIsUnchanged, RefusedCallIsUnchanged, Runs, RunsFirst, AnswerRunsFirst}
+use Rattle.soundness.proofs.Running.{Best, nobody, stands, best, row-empty}
+use Rattle.soundness.proofs.Accepted.{sound-done}
+use Rattle.soundness.proofs.Fresh.{sound-fresh}
 
 -- ---- sound states
 pub fresh-is-sound : FreshIsSound

@@ -17,12 +17,12 @@ use Rattle.ways.specs.Kind.{Kind}
 use Rattle.ways.specs.Entry.{Entry}
 use Rattle.ways.proofs.Done.{Made, Done}
 use Rattle.ways.proofs.Done.{Done as Ways}
-use Rattle.kept.proofs.Changes.{sound-moved, sound-counted, sound-flagged, sound-sliced}
-use Rattle.kept.proofs.Records.{live-made, waiting-live, row-live, sound-ended}
-use Rattle.kept.proofs.Told.{may-none, waiter-in, first-waits, no-waiter}
-use Rattle.kept.proofs.Effects.{sound-stopped, sound-deleted, sound-toldFlag, sound-ticked}
-use Rattle.kept.proofs.Running.{runner}
-use Rattle.kept.proofs.Changed.{named-in, change-sound, change-may, begins-sound, begins-may, reflag-fits, tell-fits}
+use Rattle.soundness.proofs.Changes.{sound-moved, sound-counted, sound-flagged, sound-sliced}
+use Rattle.soundness.proofs.Records.{live-made, waiting-live, row-live, sound-ended}
+use Rattle.soundness.proofs.Told.{may-none, waiter-in, first-waits, no-waiter}
+use Rattle.soundness.proofs.Effects.{sound-stopped, sound-deleted, sound-toldFlag, sound-ticked}
+use Rattle.soundness.proofs.Running.{runner}
+use Rattle.soundness.proofs.Changed.{named-in, change-sound, change-may, begins-sound, begins-may, reflag-fits, tell-fits}
 
 module _ {s : State} (k : Sound s) where
   -- the wait of a live task ends

@@ -8,7 +8,7 @@ use lib.Dec.{T}
 use lib.ListN.{length, getD, replicate, length-replicate, getD-replicate, List·getD-eq-default}
 use Rattle.model.specs.declared.Queue.{Queue}
 use Rattle.model.specs.Row.{noQueue, row}
-use Rattle.model.specs.Flag.{areKept}
+use Rattle.model.specs.Flag.{isFlagAttributes}
 use Rattle.model.specs.Task.{noTask, levelOf, rowOf}
 use Rattle.model.specs.State.{fresh, task}
 use Rattle.model.specs.Test.{occ, zeros, listsOnly, padded}
@@ -16,7 +16,7 @@ use Rattle.model.specs.Sound.{Lists, SoundTask, Sound}
 use Rattle.laws.proofs.Number.{below?}
 use Rattle.laws.proofs.Padded.{occ-zeros}
 use Rattle.laws.proofs.Record.{sound-none, row-none}
-use Rattle.kept.proofs.Listed.{listed-none}
+use Rattle.soundness.proofs.Listed.{listed-none}
 
 -- ---- what is read in a table of one value
 pub reads {ℓ} : {A : Type ℓ} (n : ℕ) (a : A) (i : ℕ) → getD (replicate n a) i a ≡ a
@@ -43,7 +43,7 @@ lists-nobody n key free = record {
 }
 
 pub sound-fresh : Sound fresh
-unfolding levelOf areKept
+unfolding levelOf isFlagAttributes
 sound-fresh = record {
   tasks# = refl;
   nobody = refl;
@@ -63,7 +63,7 @@ sound-fresh = record {
     attributes# = refl;
     bits# = refl;
     unused = (refl, refl);
-    attributes = λ f. subst (λ a. T (areKept a)) (sym (none 9 f)) tt;
+    attributes = λ f. subst (λ a. T (isFlagAttributes a)) (sym (none 9 f)) tt;
     bits = λ f e. none 9 f;
     unmet = λ f t some top e. absurd (omega (arith, no-row t));
     single = λ f t u some top one e. absurd (omega (arith, no-row t));

@@ -20,9 +20,9 @@ use Rattle.laws.proofs.Number.{same?}
 use Rattle.laws.proofs.Occ.{one-eq, one-ne, occ-cons, occ-none}
 use Rattle.laws.proofs.Padded.{padded-rest, first-none}
 use Rattle.laws.proofs.Record.{row-none}
-use Rattle.kept.proofs.Listed.{key-of, key-first, listed-in}
-use Rattle.kept.proofs.Changes.{MayWait, task-in, task-cases, sound-moved}
-use Rattle.kept.proofs.Records.{WaitsAs, Stays, told-stays, told-live, row-live, sound-told}
+use Rattle.soundness.proofs.Listed.{key-of, key-first, listed-in}
+use Rattle.soundness.proofs.Changes.{MayWait, task-in, task-cases, sound-moved}
+use Rattle.soundness.proofs.Records.{WaitsAs, Stays, told-stays, told-live, row-live, sound-told}
 
 -- ---- who may wait
 pub may-none : (s : State) (t : ℕ) (x : Task) → rowOf x ≡ 0 → MayWait s t x

@@ -11,20 +11,20 @@ use Rattle.model.specs.declared.Task.{Task}
 use Rattle.model.specs.declared.State.{State}
 use Rattle.model.specs.declared.News.{News}
 use Rattle.model.specs.declared.News.the-variants.{Deleted}
-use Rattle.model.specs.Flag.{areKept, isSingle, isMet}
+use Rattle.model.specs.Flag.{isFlagAttributes, isSingle, isMet}
 use Rattle.model.specs.Task.{dormant, activated, aged, rowOf}
 use Rattle.model.specs.State.{task, slice, charge, attribute, time, waiters, running, moved, withCharge, rotated, withTime}
 use Rattle.model.specs.Effect.{stopped, toldAll, deleted, toldFlag, chargedLevel, charged, lapsed, ticked}
 use Rattle.model.specs.Sound.{SoundTask, Sound}
 use Rattle.laws.proofs.Record.{flag-row}
-use Rattle.kept.proofs.Changes.{sound-moved, sound-counted, sound-flagged, sound-withCharge, sound-rotated, sound-withTime}
-use Rattle.kept.proofs.Records.{Stays, sound-dormant, sound-activated, sound-aged, aged-row}
-use Rattle.kept.proofs.Moved.{numbers-told}
-use Rattle.kept.proofs.Told.{may-none, may-same, waiter-in, Told, told-row}
+use Rattle.soundness.proofs.Changes.{sound-moved, sound-counted, sound-flagged, sound-withCharge, sound-rotated, sound-withTime}
+use Rattle.soundness.proofs.Records.{Stays, sound-dormant, sound-activated, sound-aged, aged-row}
+use Rattle.soundness.proofs.Moved.{numbers-told}
+use Rattle.soundness.proofs.Told.{may-none, may-same, waiter-in, Told, told-row}
 
 -- attributes a and bits b fit flag f once those who wait on it were told w
 pub record Tellable (s : State) (f : ℕ) (w : News) (a b : ℕ) : Type 0 where
-  pub kept : T (areKept a)
+  pub attributes : T (isFlagAttributes a)
   pub none : a ≡ 0 → b ≡ 0
   pub unmet : (x : Task) → SoundTask x → rowOf x ≡ f + 12 → Stays w x → (1 ≤ a) × (isMet (x .wait .pattern) (x .wait .mode) b ≡ false)
   pub single : T (isSingle a) → T (isSingle (attribute s f))
@@ -64,7 +64,7 @@ sound-deleted s k m some top = sound-counted (toldAll Deleted (waiters s m) s) m
 pub sound-toldFlag : (s : State) → Sound s → (f : ℕ) (w : News) (a b : ℕ) → 1 ≤ f → f ≤ 8 → Tellable s f w a b → Sound (toldFlag f w a b s)
 unfolding toldFlag
 sound-toldFlag s k f w a b low top fits = rw (flag-row f low top) (sound-flagged s′ f a b (z .sound) low (record {
-  kept = fits .kept;
+  attributes = fits .attributes;
   none = fits .none;
   unmet = λ t e. fits .unmet (task s′ t) (z .sound .tasks t) e (z .stays t (waiter-in s′ (z .sound) t (omega arith) .0) e);
   single = λ one t u. z .sound .flags .single f t u low top (rw (numbers-told w (waiters s (f + 12)) s) (fits .single one));
