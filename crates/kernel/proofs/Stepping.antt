@@ -17,16 +17,16 @@ use Rattle.model.specs.Row.{bestFrom}
 use Rattle.model.specs.State.{task, running, semaphore, flag}
 use Rattle.model.specs.Services.{isMine}
 use Rattle.model.specs.Effect.{carriedFrom, carried}
-use Rattle.model.specs.Call.{named, subject, plan, planned, stepFrom, step, call}
+use Rattle.model.specs.Call.{objectOf, subject, plan, planned, stepFrom, step, call}
 use Rattle.model.specs.Test.{isSound}
 
 pub stepped : (s : State) (c : Context) (a : Call) (run m : ℕ) (x : Semaphore) (y : Flag) (t : ℕ) (k : Task) (mine : Bool) (p : Plan) (s₁ : State) (run₁ : ℕ)
-    → m ≡ named a → x ≡ semaphore s m → y ≡ flag s m → t ≡ subject a run (x .first) (y .first) → k ≡ task s t → mine ≡ isMine c a → p ≡ plan mine a run k x y
+    → m ≡ objectOf a → x ≡ semaphore s m → y ≡ flag s m → t ≡ subject a run (x .first) (y .first) → k ≡ task s t → mine ≡ isMine c a → p ≡ plan mine a run k x y
     → s₁ ≡ carriedFrom run s (p .effect) → run₁ ≡ bestFrom 30 1 (s₁ .levels)
     → record { code = p .code; running = run₁; value = p .value; state = s₁ } ≡ stepFrom run s c a
 unfolding running
 stepped s c a run m x y t k mine p s₁ run₁ e₂ e₃ e₉ e₄ e₅ e₁ e₆ e₇ e₈ =
-    let q : p ≡ plan (isMine c a) a run (task s (subject a run (semaphore s (named a) .first) (flag s (named a) .first))) (semaphore s (named a)) (flag s (named a)) = rw (e₁, e₅, e₄, e₉, e₃, e₂) at e₆ in
+    let q : p ≡ plan (isMine c a) a run (task s (subject a run (semaphore s (objectOf a) .first) (flag s (objectOf a) .first))) (semaphore s (objectOf a)) (flag s (objectOf a)) = rw (e₁, e₅, e₄, e₉, e₃, e₂) at e₆ in
     rw (← q, e₈, e₇)
 
 -- a call on a state s, which the tables stand for

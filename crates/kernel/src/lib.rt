@@ -67,9 +67,9 @@ pub fn step_in(
 ) -> Stepped
     ensures { λ r. ⌜ answerOf r (after bytes words levels waits numbers) ≡ stepFrom run (before bytes words levels waits numbers) c a ⌝ }
 {
-    let named = plans::named(a);
-    let x = effects::semaphore_at(waits, numbers, named);
-    let y = effects::flag_at(waits, numbers, named);
+    let object = plans::object_of(a);
+    let x = effects::semaphore_at(waits, numbers, object);
+    let y = effects::flag_at(waits, numbers, object);
     let k = stored::record_at(bytes, words, plans::subject(a, run, x.first, y.first));
     let p = plans::plan(plans::is_mine(c, a), a, run, k, x, y);
     let code = p.code;

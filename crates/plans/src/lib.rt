@@ -2,7 +2,7 @@
 // Each function is a definition of model/specs/Call or Services, for every value; it rests on plans_task, plans_semaphore and plans_flag.
 ghost use mathlib.Core.Path.{_≡_};
 ghost use Rattle.model.specs.declared.Context.the-variants.{I};
-ghost use Rattle.model.specs.Call.{named, subject, plan};
+ghost use Rattle.model.specs.Call.{objectOf, subject, plan};
 ghost use Rattle.model.specs.Services.{isMine};
 use model::Call;
 use model::Context;
@@ -33,8 +33,8 @@ use plans_task::waits::suspend;
 use plans_task::waits::wakeup;
 
 // The semaphore or flag that a call names, or 0.
-pub fn named(a: Call) -> usize
-    ensures { λ r. ⌜ r ≡ named a ⌝ }
+pub fn object_of(a: Call) -> usize
+    ensures { λ r. ⌜ r ≡ objectOf a ⌝ }
 {
     match a {
         Call::TaskCreate { .. } => 0,

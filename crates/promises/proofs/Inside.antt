@@ -155,7 +155,7 @@ of-plans_flag =
 
 pub of-plans : List Promise
 of-plans =
-    of plans.named.signature (λ M. plans.named.clauses) (λ M. plans.named.Met.met) (λ w κs a g h o p. plain w result) ∷
+    of plans.object_of.signature (λ M. plans.object_of.clauses) (λ M. plans.object_of.Met.met) (λ w κs a g h o p. plain w result) ∷
     of plans.subject.signature (λ M. plans.subject.clauses) (λ M. plans.subject.Met.met) (λ w κs a g h o p. plain w result) ∷
     of plans.is_mine.signature (λ M. plans.is_mine.clauses) (λ M. plans.is_mine.Met.met) (λ w κs a g h o p. plain w result) ∷
     of plans.plan.signature (λ M. plans.plan.clauses) (λ M. plans.plan.Met.met) (λ w κs a g h o p. plain w result) ∷

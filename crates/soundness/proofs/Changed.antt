@@ -47,7 +47,7 @@ wanted-range p x low top h = go (eqb p 0) refl
     go true e = (low, top)
     go false e = let some : p ≡ 0 → ⊥ = eqb-false p 0 e in (omega arith, h)
 
--- attributes are kept plus 1
+-- a flag has its attributes plus 1
 flag-attributes : (a : ℕ) → T (isAttributes a) → T (isFlagAttributes (a + 1))
 unfolding isFlagAttributes
 flag-attributes a h = go (says-or (equals a 0) (says-or (equals a 1) (equals a 3)) .yields h)

@@ -15,7 +15,7 @@ use Rattle.model.specs.Flag.{flagRow}
 use Rattle.model.specs.State.{task, semaphore, flag, running}
 use Rattle.model.specs.Code.{number}
 use Rattle.model.specs.Services.{isMine}
-use Rattle.model.specs.Call.{named, flagSubject, subject, flagPlan, plan, planned, step}
+use Rattle.model.specs.Call.{objectOf, flagSubject, subject, flagPlan, plan, planned, step}
 use Rattle.ways.specs.Kind.{other, kind}
 use Rattle.ways.specs.Entry.{none, entry}
 use Rattle.ways.proofs.Done.{Way, oneDigit, digit}
@@ -35,7 +35,7 @@ way-flag s mine f (WaitPolling p m) = way-flagPoll s mine f p m
 way-flag s mine f (Iwait p m) = way-flagPoll s mine f p m
 
 way-plan : (s : State) (mine : Bool) (a : Call)
-    → Way s (kind a) (entry a) (plan mine a (running s) (task s (subject a (running s) (firstOf (s .waits) (named a)) (firstOf (s .waits) (flagRow (named a))))) (semaphore s (named a)) (flag s (named a)))
+    → Way s (kind a) (entry a) (plan mine a (running s) (task s (subject a (running s) (firstOf (s .waits) (objectOf a)) (firstOf (s .waits) (flagRow (objectOf a))))) (semaphore s (objectOf a)) (flag s (objectOf a)))
 unfolding plan
 way-plan s mine (TaskCreate t p o) = way-create s mine t p o
 way-plan s mine (TaskDelete t) = way-delete s mine t

@@ -5,8 +5,8 @@ use borrow.Author.Needs.{needs}
 use Rattle.kernel.proofs.step_in.Statement.{statement}
 use Rattle.kernel.proofs.step_in.Tie as tie
 
-named-requires : tie.Need-named-requires
-named-requires c κs = search needs
+object-of-requires : tie.Need-object-of-requires
+object-of-requires c κs = search needs
 
 semaphore-at-requires : tie.Need-semaphore-at-requires
 semaphore-at-requires c κs = search needs
@@ -33,13 +33,13 @@ best-requires : tie.Need-best-requires
 best-requires c κs = search needs
 
 returns : tie.Need-returns
-returns c = law.stepped (stateIn (c .before .before .before .before .before .before .before .before .before .before .before .before .before .before .before .before .before .before .before .before .before .args .bytes .now) (c .before .before .before .before .before .before .before .before .before .before .before .before .before .before .before .before .before .before .before .before .before .args .words .now) (c .before .before .before .before .before .before .before .before .before .before .before .before .before .before .before .before .before .before .before .before .before .args .levels .now) (c .before .before .before .before .before .before .before .before .before .before .before .before .before .before .before .before .before .before .before .before .before .args .waits .now) (c .before .before .before .before .before .before .before .before .before .before .before .before .before .before .before .before .before .before .before .before .before .args .numbers .now)) (c .before .before .before .before .before .before .before .before .before .before .before .before .before .before .before .before .before .before .before .before .before .args .c) (c .before .before .before .before .before .before .before .before .before .before .before .before .before .before .before .before .before .before .before .before .before .args .a) (c .before .before .before .before .before .before .before .before .before .before .before .before .before .before .before .before .before .before .before .before .before .args .run) _ _ _ _ _ _ _ _ _ (c .before .before .before .before .before .before .before .before .before .before .before .before .before .before .before .before .before .before .before .before .named .ensures) (c .before .before .before .before .before .before .before .before .before .before .before .before .before .before .before .before .before .semaphore-at .ensures) (c .before .before .before .before .before .before .before .before .before .before .before .before .before .before .flag-at .ensures) (c .before .before .before .before .before .before .before .before .before .before .before .subject .ensures) (c .before .before .before .before .before .before .before .before .before .before .record-at .ensures) (c .before .before .before .before .before .before .before .before .before .is-mine .ensures) (c .before .before .before .before .before .before .before .before .plan .ensures) (c .before .before .carry .ensures) (c .best .ensures)
+returns c = law.stepped (stateIn (c .before .before .before .before .before .before .before .before .before .before .before .before .before .before .before .before .before .before .before .before .before .args .bytes .now) (c .before .before .before .before .before .before .before .before .before .before .before .before .before .before .before .before .before .before .before .before .before .args .words .now) (c .before .before .before .before .before .before .before .before .before .before .before .before .before .before .before .before .before .before .before .before .before .args .levels .now) (c .before .before .before .before .before .before .before .before .before .before .before .before .before .before .before .before .before .before .before .before .before .args .waits .now) (c .before .before .before .before .before .before .before .before .before .before .before .before .before .before .before .before .before .before .before .before .before .args .numbers .now)) (c .before .before .before .before .before .before .before .before .before .before .before .before .before .before .before .before .before .before .before .before .before .args .c) (c .before .before .before .before .before .before .before .before .before .before .before .before .before .before .before .before .before .before .before .before .before .args .a) (c .before .before .before .before .before .before .before .before .before .before .before .before .before .before .before .before .before .before .before .before .before .args .run) _ _ _ _ _ _ _ _ _ (c .before .before .before .before .before .before .before .before .before .before .before .before .before .before .before .before .before .before .before .before .object-of .ensures) (c .before .before .before .before .before .before .before .before .before .before .before .before .before .before .before .before .before .semaphore-at .ensures) (c .before .before .before .before .before .before .before .before .before .before .before .before .before .before .flag-at .ensures) (c .before .before .before .before .before .before .before .before .before .before .before .subject .ensures) (c .before .before .before .before .before .before .before .before .before .before .record-at .ensures) (c .before .before .before .before .before .before .before .before .before .is-mine .ensures) (c .before .before .before .before .before .before .before .before .plan .ensures) (c .before .before .carry .ensures) (c .best .ensures)
 
 pub step-in-spec : {M : Type 1} → statement M
 step-in-spec =
     tie.close
     (tie.spec
-    named-requires
+    object-of-requires
     semaphore-at-requires
     flag-at-requires
     subject-requires

@@ -1,8 +1,8 @@
--- `plans::named` meets its contract: call by call.
+-- `plans::object_of` meets its contract: call by call.
 -- It rests on the definition alone.
 use borrow.Author.Needs.{needs}
-use Rattle.plans.proofs.named.Statement.{statement}
-use Rattle.plans.proofs.named.Tie as tie
+use Rattle.plans.proofs.object_of.Statement.{statement}
+use Rattle.plans.proofs.object_of.Tie as tie
 
 returns : tie.Need-returns
 returns c = rw (c .enum-told .given .1)
@@ -76,8 +76,8 @@ returns-23 c = rw (c .before .a7 .given .1)
 returns-24 : tie.Need-returns-24
 returns-24 c = rw (c .before .a8 .given .1)
 
-pub named-spec : {M : Type 1} → statement M
-named-spec =
+pub object-of-spec : {M : Type 1} → statement M
+object-of-spec =
     tie.close
     (tie.spec
     (λ c. search needs)
