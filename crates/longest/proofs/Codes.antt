@@ -5,7 +5,7 @@ use mathlib.Core.Bool.{Bool, true, false, false≢true}
 use Prim.Native.Nat.{suc, _+_, _≤_, _<_}
 use native.Mathlib.Omega.{arith}
 use native.Mathlib.Decide.{decLe}
-use lib.Dec.{T, ltb→lt}
+use lib.Dec.{T as So, ltb→lt}
 use lib.IntN.{ℤ, pos, negsuc}
 use lib.ListN.{length}
 use Rattle.text.specs.Decimal.{decimal}
@@ -25,12 +25,12 @@ use Rattle.walk.specs.Rows.{signed}
 use Rattle.runner.proofs.Widths.{width-most}
 
 -- ---- codes
-signed-most : (z : ℤ) → T (oneDigit z) → length (signed z) ≤ 2
+signed-most : (z : ℤ) → So (oneDigit z) → length (signed z) ≤ 2
 signed-most (pos n) h = omega (arith, width-one n (omega (arith, ltb→lt n 10 h)))
 signed-most (negsuc n) h = omega (arith, width-one (suc n) (omega (arith, ltb→lt n 9 h)))
 
 -- without a sign
-signed-one : (z : ℤ) → T (oneDigit z) → isNegative z ≡ false → length (signed z) ≤ 1
+signed-one : (z : ℤ) → So (oneDigit z) → isNegative z ≡ false → length (signed z) ≤ 1
 signed-one (pos n) h e = omega (arith, width-one n (omega (arith, ltb→lt n 10 h)))
 signed-one (negsuc n) h e = absurd (false≢true (sym e))
 

@@ -2,7 +2,7 @@
 -- A damaged definition is refused here, as 01's own cases are in Table.
 use mathlib.Core.List.{List, [], _∷_}
 use Prim.Native.Nat.{ℕ}
-use lib.Dec.{T}
+use lib.Dec.{T as So}
 use Rattle.model.specs.declared.Call.{Call}
 use Rattle.model.specs.declared.Call.the-variants.{TaskCreate, TaskSuspend, TaskResume, TaskSleep, TaskWakeup, TaskIwakeup, TaskReleaseWait, OnFlag}
 use Rattle.model.specs.declared.FlagService.the-variants.{Create, Delete, Set, Iset, Clear, Iclear, Wait, WaitPolling, Iwait}
@@ -53,6 +53,6 @@ table =
     ∷ int (OnFlag 3 (Set 1)) (minus 9) 0 ∷ int (OnFlag 3 (Wait 1 0 1)) (minus 9) 0 ∷ int (OnFlag 1 (Set 1)) (minus 2) 0 ∷ task (OnFlag 1 (Iset 1)) (minus 2) 0 ∷ task (OnFlag 1 (Wait 1 0 1)) (minus 2) 0 ∷ [])
     ∷ []
 
-pub flags : T (allHold table)
+pub flags : So (allHold table)
 unfolding opened table
 flags = tt

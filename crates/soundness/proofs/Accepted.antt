@@ -3,7 +3,7 @@
 use mathlib.Core.Path.{_≡_, refl}
 use Prim.Native.Nat.{ℕ, _+_, _-_, _≤_}
 use native.Mathlib.Omega.{arith}
-use lib.Dec.{T}
+use lib.Dec.{T as So}
 use Rattle.model.specs.declared.State.{State}
 use Rattle.model.specs.declared.Effect.{Effect}
 use Rattle.model.specs.declared.Code.{Code}
@@ -26,7 +26,7 @@ use Rattle.soundness.proofs.Changed.{named-in, change-sound, change-may
 
 module _ {s : State} (k : Sound s) where
   -- the wait of a live task ends
-  ending : (t v : ℕ) → (1 ≤ t) × (t ≤ 24) → 1 ≤ task s t .active → T (isWaitCode v) → Sound (moved t (ended (task s t) v 0) s)
+  ending : (t v : ℕ) → (1 ≤ t) × (t ≤ 24) → 1 ≤ task s t .active → So (isWaitCode v) → Sound (moved t (ended (task s t) v 0) s)
   unfolding rowOf
   ending t v r live h = sound-moved s k t (ended (task s t) v 0) (r .0) (r .1) (sound-ended (task s t) (k .tasks t) live v 0 h) (may-none s t (ended (task s t) v 0) refl)
 

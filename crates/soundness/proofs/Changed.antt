@@ -5,7 +5,7 @@ use mathlib.Core.Bool.{Bool, true, false, cond, not, _&&_}
 use mathlib.Core.Logic.{_⊎_, inl, inr, ⊎-elim}
 use Prim.Native.Nat.{ℕ, _+_, _≤_}
 use native.Mathlib.Omega.{arith}
-use lib.Dec.{T, eqb}
+use lib.Dec.{T as So, eqb}
 use borrow.Author.Tests.{eqb-false}
 use Rattle.model.specs.declared.Wait.{Wait}
 use Rattle.model.specs.declared.Task.{Task}
@@ -48,11 +48,11 @@ wanted-range p x low top h = go (eqb p 0) refl
     go false e = let some : p ≡ 0 → ⊥ = eqb-false p 0 e in (omega arith, h)
 
 -- a flag has its attributes plus 1
-flag-attributes : (a : ℕ) → T (isAttributes a) → T (isFlagAttributes (a + 1))
+flag-attributes : (a : ℕ) → So (isAttributes a) → So (isFlagAttributes (a + 1))
 unfolding isFlagAttributes
 flag-attributes a h = go (says-or (equals a 0) (says-or (equals a 1) (equals a 3)) .yields h)
   where
-    go : (a ≡ 0) ⊎ ((a ≡ 1) ⊎ (a ≡ 3)) → T (isFlagAttributes (a + 1))
+    go : (a ≡ 0) ⊎ ((a ≡ 1) ⊎ (a ≡ 3)) → So (isFlagAttributes (a + 1))
     go (inl e) = rw e tt
     go (inr (inl e)) = rw e tt
     go (inr (inr e)) = rw e tt
@@ -117,11 +117,11 @@ module _ {s : State} (k : Sound s) where
       go (asks f p m d made bits mode low free unmet) = sound-asking x y live f p m d (made .low) (made .top) low bits mode
 
   -- on a SINGLE flag that is not occupied nobody waits
-  alone : (f : ℕ) → T (not (isOccupied (flag s f))) → T (isSingle (attribute s f)) → firstOf (s .waits) (flagRow f) ≡ 0
+  alone : (f : ℕ) → So (not (isOccupied (flag s f))) → So (isSingle (attribute s f)) → firstOf (s .waits) (flagRow f) ≡ 0
   unfolding isOccupied
   alone f = go (isSingle (attribute s f))
     where
-      go : (b : Bool) → T (not (b && not (eqb (firstOf (s .waits) (flagRow f)) 0))) → T b → firstOf (s .waits) (flagRow f) ≡ 0
+      go : (b : Bool) → So (not (b && not (eqb (firstOf (s .waits) (flagRow f)) 0))) → So b → firstOf (s .waits) (flagRow f) ≡ 0
       go true free one = none-of (firstOf (s .waits) (flagRow f)) .yields free
       go false free one = absurd one
 

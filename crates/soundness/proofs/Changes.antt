@@ -6,7 +6,7 @@ use mathlib.Core.Logic.{_⊎_, inl, inr, ⊎-elim}
 use mathlib.Core.Bool.{false}
 use Prim.Native.Nat.{ℕ, _+_, _≤_, _<_}
 use native.Mathlib.Omega.{arith}
-use lib.Dec.{T}
+use lib.Dec.{T as So}
 use lib.ListN.{length, getD, set, length-set, List·getD-eq-default}
 use lib.Seq.{getD-set-same, getD-set-other, set-out, set-getD}
 use Rattle.model.specs.declared.Task.{Task}
@@ -50,7 +50,7 @@ task-in key z s k t h =
 pub record MayWait (s : State) (t : ℕ) (x : Task) : Type 0 where
   pub waited : (m : ℕ) → 1 ≤ m → m ≤ 12 → rowOf x ≡ m → (count s m ≡ 0) × (1 ≤ maximum s m)
   pub unmet : (f : ℕ) → 1 ≤ f → f ≤ 8 → rowOf x ≡ f + 12 → (1 ≤ attribute s f) × (isMet (x .wait .pattern) (x .wait .mode) (bitsOf s f) ≡ false)
-  pub single : (f u : ℕ) → 1 ≤ f → f ≤ 8 → T (isSingle (attribute s f)) → rowOf x ≡ f + 12 → rowOf (task s u) ≡ f + 12 → u ≡ t
+  pub single : (f u : ℕ) → 1 ≤ f → f ≤ 8 → So (isSingle (attribute s f)) → rowOf x ≡ f + 12 → rowOf (task s u) ≡ f + 12 → u ≡ t
 
 module _ (s : State) (k : Sound s) (t : ℕ) (x : Task) (some : 1 ≤ t) (top : t ≤ 24) where
   now : task (moved t x s) t ≡ x
@@ -146,10 +146,10 @@ sound-counted s m n v k some low top free = renumbered s (counted m n v s .numbe
 -- ---- a flag's numbers
 -- attributes a and bits b fit those who wait on flag f
 pub record FlagFits (s : State) (f a b : ℕ) : Type 0 where
-  pub attributes : T (isFlagAttributes a)
+  pub attributes : So (isFlagAttributes a)
   pub none : a ≡ 0 → b ≡ 0
   pub unmet : (t : ℕ) → rowOf (task s t) ≡ f + 12 → (1 ≤ a) × (isMet (task s t .wait .pattern) (task s t .wait .mode) b ≡ false)
-  pub single : T (isSingle a) → (t u : ℕ) → rowOf (task s t) ≡ f + 12 → rowOf (task s u) ≡ f + 12 → t ≡ u
+  pub single : So (isSingle a) → (t u : ℕ) → rowOf (task s t) ≡ f + 12 → rowOf (task s u) ≡ f + 12 → t ≡ u
 
 pub sound-flagged : (s : State) (f a b : ℕ) → Sound s → 1 ≤ f → FlagFits s f a b → Sound (flagged f a b s)
 unfolding flagged
@@ -157,11 +157,11 @@ sound-flagged s f a b k some fits = renumbered s (flagged f a b s .numbers) k (k
   attributes# = length-set es f a ∙ g .attributes#;
   bits# = length-set bs f b ∙ g .bits#;
   unused = (stored (λ c. c ≡ 0) es f a 0 (λ e. absurd (omega arith)) (g .unused .0), stored (λ c. c ≡ 0) bs f b 0 (λ e. absurd (omega arith)) (g .unused .1));
-  attributes = λ i. stored (λ c. T (isFlagAttributes c)) es f a i (λ e. fits .attributes) (g .attributes i);
+  attributes = λ i. stored (λ c. So (isFlagAttributes c)) es f a i (λ e. fits .attributes) (g .attributes i);
   bits = λ i. stored-both (λ c d. c ≡ 0 → d ≡ 0) es bs f a b i same (λ e. fits .none) (g .bits i);
   unmet = λ i t low top e. stored-both (λ c d. (1 ≤ c) × (isMet (task s t .wait .pattern) (task s t .wait .mode) d ≡ false)) es bs f a b i same
       (λ z. fits .unmet t (e ∙ ap (λ n. n + 12) z)) (g .unmet i t low top e);
-  single = λ i t u low top. stored (λ c. T (isSingle c) → rowOf (task s t) ≡ i + 12 → rowOf (task s u) ≡ i + 12 → t ≡ u) es f a i
+  single = λ i t u low top. stored (λ c. So (isSingle c) → rowOf (task s t) ≡ i + 12 → rowOf (task s u) ≡ i + 12 → t ≡ u) es f a i
       (λ z one d e. fits .single one t u (d ∙ ap (λ n. n + 12) z) (e ∙ ap (λ n. n + 12) z)) (g .single i t u low top);
 })
   where

@@ -5,7 +5,7 @@ use mathlib.Core.Bool.{Bool, true, false, cond}
 use mathlib.Core.Logic.{⊎-elim}
 use Prim.Native.Nat.{ℕ, zero, suc, _+_, _≤_, _%_, _^_}
 use native.Mathlib.Omega.{arith}
-use lib.Dec.{T, eqb, ltb}
+use lib.Dec.{T as So, eqb, ltb}
 use borrow.Author.Tests.{eqb-false, ltb-true}
 use Rattle.model.specs.declared.Task.{Task}
 use Rattle.model.specs.declared.State.{State}
@@ -24,10 +24,10 @@ use Rattle.soundness.proofs.Told.{may-none, may-same, waiter-in, Told, 
 
 -- attributes a and bits b fit flag f once those who wait on it were told w
 pub record Tellable (s : State) (f : ℕ) (w : News) (a b : ℕ) : Type 0 where
-  pub attributes : T (isFlagAttributes a)
+  pub attributes : So (isFlagAttributes a)
   pub none : a ≡ 0 → b ≡ 0
   pub unmet : (x : Task) → SoundTask x → rowOf x ≡ f + 12 → Stays w x → (1 ≤ a) × (isMet (x .wait .pattern) (x .wait .mode) b ≡ false)
-  pub single : T (isSingle a) → T (isSingle (attribute s f))
+  pub single : So (isSingle a) → So (isSingle (attribute s f))
 
 -- ---- a task stops
 pub sound-stopped : (s : State) → Sound s → (t : ℕ) → 1 ≤ t → t ≤ 24 → 1 ≤ task s t .base → Sound (stopped t s)

@@ -4,7 +4,7 @@ use mathlib.Core.Path.{_≡_, refl, sym, ap, _∙_, subst}
 use mathlib.Core.Logic.{inr, ⊎-elim}
 use Prim.Native.Nat.{ℕ, _≤_, _<_}
 use native.Mathlib.Omega.{arith}
-use lib.Dec.{T}
+use lib.Dec.{T as So}
 use lib.ListN.{length, getD, replicate, length-replicate, getD-replicate, List·getD-eq-default}
 use Rattle.model.specs.declared.Queue.{Queue}
 use Rattle.model.specs.Row.{noQueue, row}
@@ -39,7 +39,7 @@ lists-nobody n key free = record {
   sized = length-replicate n noQueue;
   places = λ l. ap length (empty-row n l);
   exactly = λ l t h some. ap (occ t) (empty-row n l) ∙ occ-zeros (replicate 24 0) tt t some ∙ sym (listed-none l (key t) (λ low f. omega (arith, free t)));
-  ends = λ l h. subst (λ q. T (padded q)) (sym (empty-row n l)) tt;
+  ends = λ l h. subst (λ q. So (padded q)) (sym (empty-row n l)) tt;
 }
 
 pub sound-fresh : Sound fresh
@@ -63,7 +63,7 @@ sound-fresh = record {
     attributes# = refl;
     bits# = refl;
     unused = (refl, refl);
-    attributes = λ f. subst (λ a. T (isFlagAttributes a)) (sym (none 9 f)) tt;
+    attributes = λ f. subst (λ a. So (isFlagAttributes a)) (sym (none 9 f)) tt;
     bits = λ f e. none 9 f;
     unmet = λ f t some top e. absurd (omega (arith, no-row t));
     single = λ f t u some top one e. absurd (omega (arith, no-row t));

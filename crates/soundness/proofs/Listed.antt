@@ -5,7 +5,7 @@ use mathlib.Core.List.{List}
 use mathlib.Core.Logic.{_⊎_, inl, inr, ⊎-elim}
 use Prim.Native.Nat.{ℕ, zero, suc, _≤_, _<_}
 use native.Mathlib.Omega.{arith}
-use lib.Dec.{T}
+use lib.Dec.{T as So}
 use lib.ListN.{length}
 use borrow.Author.Tests.{eq-eqb, ne-eqb}
 use Rattle.model.specs.declared.Queue.{Queue}
@@ -97,7 +97,7 @@ module _ (ls : List Queue) (n : ℕ) (key : ℕ → ℕ) (k : Lists ls n key) (t
         (λ (e : u ≡ t). rw (e, now) (stands l h))
         (λ (other : u ≡ t → ⊥). rw (others u other) (kept l u low other ∙ k .exactly l u h low))
         (same? u t);
-    ends = λ l h. row-cases (λ q. T (padded q)) ls (key t) g t l (λ _. k .ends l h)
+    ends = λ l h. row-cases (λ q. So (padded q)) ls (key t) g t l (λ _. k .ends l h)
         (λ _ _ e. padded-left (row ls (key t)) t (rw e at (k .ends l h)))
         (λ _ _ e. padded-joined (row ls g) t (rw e at (k .ends l h)));
   }
@@ -113,7 +113,7 @@ lists-turned ls n key l k = record {
   sized = length-withRow ls l q ∙ k .sized;
   places = λ m. row-withRow ls l q (λ w. length w ≡ 24) m (λ _. length-turned (row ls l) ∙ k .places l) (k .places m);
   exactly = λ m u h low. row-withRow ls l q (λ w. occ u w ≡ one (isListed m (key u))) m (λ e. rw (← e) (occ-turned (row ls m) u low ∙ k .exactly m u h low)) (k .exactly m u h low);
-  ends = λ m h. row-withRow ls l q (λ w. T (padded w)) m (λ e. rw (← e) (padded-turned (row ls m) (k .ends m h))) (k .ends m h);
+  ends = λ m h. row-withRow ls l q (λ w. So (padded w)) m (λ e. rw (← e) (padded-turned (row ls m) (k .ends m h))) (k .ends m h);
 }
   where
     q : List ℕ

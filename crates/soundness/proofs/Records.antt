@@ -5,7 +5,7 @@ use mathlib.Core.Bool.{Bool, true, false, cond, not, _&&_}
 use mathlib.Core.Logic.{_⊎_, inl, inr}
 use Prim.Native.Nat.{ℕ, _-_, _≤_}
 use native.Mathlib.Omega.{arith}
-use lib.Dec.{T, eqb}
+use lib.Dec.{T as So, eqb}
 use borrow.Author.Tests.{eqb-false}
 use Rattle.model.specs.declared.Wait.{Wait}
 use Rattle.model.specs.declared.Task.{Task}
@@ -37,7 +37,7 @@ pub level-live : (x : Task) → 1 ≤ levelOf x → (1 ≤ x .active) × (x .wai
 unfolding levelOf
 level-live x h = go (isRunnable x) h (both (not (isDormant x)) (not (isSuspended x) && not (isWaiting x)))
   where
-    go : (b : Bool) → 1 ≤ cond b (x .priority) 0 → (T b → T (not (isDormant x)) × T (not (isSuspended x) && not (isWaiting x)))
+    go : (b : Bool) → 1 ≤ cond b (x .priority) 0 → (So b → So (not (isDormant x)) × So (not (isSuspended x) && not (isWaiting x)))
         → (1 ≤ x .active) × (x .wait .kind ≡ nothing)
     go true h r = (some-of (x .active) .yields (r tt .0), none-of (x .wait .kind) .yields (both (not (isSuspended x)) (not (isWaiting x)) (r tt .1) .1))
     go false h r = absurd (omega arith)
@@ -64,7 +64,7 @@ sound-created p o low top = go (eqb o 0)
 module _ (x : Task) (k : SoundTask x) (live : 1 ≤ x .active) where
   -- it stays what it was created as, and live
   still : (y : Task) → y .base ≡ x .base → y .active ≡ x .active → (1 ≤ y .priority) × (y .priority ≤ 30) → y .suspended ≤ 1 → y .wakeups ≤ 1 → y .activations ≤ 1
-      → T (isWaitCode (y .code)) → WaitOf y → SoundAsk (y .wait) → SoundTask y
+      → So (isWaitCode (y .code)) → WaitOf y → SoundAsk (y .wait) → SoundTask y
   still y same lives priority suspended wakeups activations code =
       sound-of y (rw same (live-made x k live, k .base)) priority (rw lives (k .active)) suspended wakeups activations code (λ e. absurd (omega arith))
 
@@ -91,7 +91,7 @@ module _ (x : Task) (k : SoundTask x) (live : 1 ≤ x .active) where
       still (withRemaining x d) refl refl priority-now (k .suspended) (k .wakeups) (k .activations) (k .code)
       (record { wait = k .wait; waiting = λ n. (some, k .waiting n .1, k .waiting n .2); free = λ e. absurd (waits e); sleeper = k .sleeper; object = k .object; flag = k .flag }) (record { asks = k .asks; silent = k .silent })
 
-  pub sound-ended : (v b : ℕ) → T (isWaitCode v) → SoundTask (ended x v b)
+  pub sound-ended : (v b : ℕ) → So (isWaitCode v) → SoundTask (ended x v b)
   sound-ended v b h =
       still (ended x v b) refl refl priority-now (k .suspended) (k .wakeups) (k .activations) h (wait-none (x .wakeups) v b) ask-none
 
@@ -148,10 +148,10 @@ told-live (Bits b) x = go (isMet (x .wait .pattern) (x .wait .mode) b)
     go false = refl
 
 -- ---- a tick's
-code-out : (x : Task) → T (isWaitCode (ranOut x))
+code-out : (x : Task) → So (isWaitCode (ranOut x))
 code-out x = go (isAsleep x)
   where
-    go : (b : Bool) → T (isWaitCode (cond b 0 4))
+    go : (b : Bool) → So (isWaitCode (cond b 0 4))
     go true = tt
     go false = tt
 
@@ -163,7 +163,7 @@ sound-aged x k = go (isTimed x) (eqb (x .wait .remaining) 1) (λ h. both (not (e
     waits : 1 ≤ x .wait .remaining → x .wait .kind ≡ nothing → ⊥
     waits some e = omega (arith, k .free e)
 
-    go : (a b : Bool) → (T a → T (not (eqb (x .wait .remaining) 0))) → eqb (x .wait .remaining) 1 ≡ b
+    go : (a b : Bool) → (So a → So (not (eqb (x .wait .remaining) 0))) → eqb (x .wait .remaining) 1 ≡ b
         → SoundTask (cond a (cond b (ended x (ranOut x) 0) (withRemaining x (x .wait .remaining - 1))) x)
     go true true timed e = sound-ended x k (waiting-live x k (waits (some-of (x .wait .remaining) .yields (timed tt)))) (ranOut x) 0 (code-out x)
     go true false timed e =

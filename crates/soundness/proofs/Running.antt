@@ -6,7 +6,7 @@ use mathlib.Core.Logic.{⊎-elim}
 use Prim.Native.Nat.{ℕ, zero, suc, _+_, _≤_, _<_}
 use native.Mathlib.Omega.{arith}
 use native.Mathlib.Nat.{eq-or-lt-of-le}
-use lib.Dec.{T}
+use lib.Dec.{T as So}
 use borrow.Author.Tests.{eq-eqb, ne-eqb}
 use Rattle.model.specs.declared.State.{State}
 use Rattle.model.specs.declared.Queue.{Queue}
@@ -44,11 +44,11 @@ best (suc n) l ls = ⊎-elim
     later e (stands i low top some more) = stands i (omega arith) (omega arith) some (here e i more)
 
 -- a row where nobody stands first is all zeros
-pub row-empty : (ls : List Queue) (l : ℕ) → T (padded (row ls l)) → firstOf ls l ≡ 0 → T (zeros (row ls l))
+pub row-empty : (ls : List Queue) (l : ℕ) → So (padded (row ls l)) → firstOf ls l ≡ 0 → So (zeros (row ls l))
 unfolding zeros listsOnly
 row-empty ls l h e = go (row ls l) h e
   where
-    go : (q : List ℕ) → T (padded q) → first q ≡ 0 → T (zeros q)
+    go : (q : List ℕ) → So (padded q) → first q ≡ 0 → So (zeros q)
     go [] h e = tt
     go (x ∷ q) h e = rw (eq-eqb x 0 e) (rw (eq-eqb x 0 e) at h)
 

@@ -5,7 +5,7 @@ use mathlib.Core.Bool.{Bool, true, false, cond}
 use mathlib.Core.List.{[], _∷_}
 use Prim.Native.Nat.{ℕ}
 use native.Mathlib.Omega.{arith}
-use lib.Dec.{T-not}
+use lib.Dec.{T-not as So-not}
 use Rattle.model.specs.declared.State.{State}
 use Rattle.model.specs.declared.Plan.{Plan}
 use Rattle.model.specs.declared.Answer.{Answer}
@@ -62,7 +62,7 @@ reached-is-sound s (a ∷ rest) k = reached-is-sound (step s (a .0) (a .1) .stat
 way-unchanged : {s : State} {j : Kind} {i : Entry} {p : Plan} → Way s j i p → isRefusal (p .code) ≡ true → carried s (p .effect) ≡ s
 unfolding carried
 way-unchanged (refuses c n d) e = refl
-way-unchanged (accepts c v x n d done) e = absurd (T-not (isRefusal c) n (rw e tt))
+way-unchanged (accepts c v x n d done) e = absurd (So-not (isRefusal c) n (rw e tt))
 
 pub refused-is-unchanged : RefusedIsUnchanged
 unfolding step

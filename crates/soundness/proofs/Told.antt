@@ -5,7 +5,7 @@ use mathlib.Core.List.{List, [], _∷_}
 use mathlib.Core.Logic.{_⊎_, inl, inr, ⊎-elim}
 use Prim.Native.Nat.{ℕ, _≤_}
 use native.Mathlib.Omega.{arith}
-use lib.Dec.{T}
+use lib.Dec.{T as So}
 use borrow.Author.Tests.{ne-eqb, eq-eqb}
 use Rattle.model.specs.declared.Task.{Task}
 use Rattle.model.specs.declared.State.{State}
@@ -58,7 +58,7 @@ no-waiter s k m low top e t f =
 -- it holds live tasks, and whoever waits in row m and has not been told
 record Queue (w : News) (m : ℕ) (q : List ℕ) (s : State) : Type 0 where
   sound : Sound s
-  ends : T (padded q)
+  ends : So (padded q)
   lives : (t : ℕ) → 1 ≤ t → 1 ≤ occ t q → (t ≤ 24) × (1 ≤ task s t .active)
   holds : (t : ℕ) → 1 ≤ t → rowOf (task s t) ≡ m → (1 ≤ occ t q) ⊎ Stays w (task s t)
 

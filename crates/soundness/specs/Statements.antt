@@ -4,7 +4,7 @@ use mathlib.Core.Path.{_≡_}
 use mathlib.Core.Bool.{true}
 use mathlib.Core.List.{List, [], _∷_}
 use Prim.Native.Nat.{ℕ, _≤_, _<_}
-use lib.Dec.{T}
+use lib.Dec.{T as So}
 use Rattle.model.specs.declared.State.{State}
 use Rattle.model.specs.declared.Context.{Context}
 use Rattle.model.specs.declared.Call.{Call}
@@ -43,7 +43,7 @@ RefusedCallIsUnchanged = (s : State) (c : Context) (a : Call) → isRefusal (cal
 -- ---- who runs
 -- level l lists nobody: all its places hold 0
 abbrev pub Empty : State → ℕ → Type 0
-Empty s l = T (zeros (level s l))
+Empty s l = So (zeros (level s l))
 
 -- 0 runs where every level is empty; else t runs, which stands first in a level, and every better level is empty
 pub data Runs (s : State) : ℕ → Type 0 where

@@ -4,7 +4,7 @@ use mathlib.Core.Path.{_≡_}
 use mathlib.Core.Bool.{false}
 use mathlib.Core.Logic.{_⊎_}
 use Prim.Native.Nat.{ℕ, _≤_, _<_}
-use lib.Dec.{T}
+use lib.Dec.{T as So}
 use Rattle.model.specs.declared.Wait.{Wait}
 use Rattle.model.specs.Flag.{isFlagAttributes, isSingle, isMet}
 use Rattle.model.specs.Task.{aFlag}
@@ -26,7 +26,7 @@ unfolding isCountSound
 says-count n v firstWaiter = says-and says-le (says-and says-le (says-implies (says-not says-eq) (says-and says-eq (says-not says-eq))))
 
 abbrev pub Flagged : ℕ → ℕ → ℕ → ℕ → Type 0
-Flagged a b firstWaiter secondWaiter = T (isFlagAttributes a) × ((a ≡ 0 → (b ≡ 0) × (firstWaiter ≡ 0)) × (T (isSingle a) → secondWaiter ≡ 0))
+Flagged a b firstWaiter secondWaiter = So (isFlagAttributes a) × ((a ≡ 0 → (b ≡ 0) × (firstWaiter ≡ 0)) × (So (isSingle a) → secondWaiter ≡ 0))
 
 pub says-flag : (a b firstWaiter secondWaiter : ℕ) → Says (isFlagSound a b firstWaiter secondWaiter) (Flagged a b firstWaiter secondWaiter)
 unfolding isFlagSound

@@ -6,7 +6,7 @@ use mathlib.Core.List.{List, [], _∷_}
 use mathlib.Core.Logic.{_⊎_, inl, inr}
 use Prim.Native.Nat.{ℕ, _+_, _-_, _≤_, _%_, _^_}
 use native.Mathlib.Omega.{arith}
-use lib.Dec.{T, eqb}
+use lib.Dec.{T as So, eqb}
 use lib.IntN.{ℤ, pos, negsuc}
 use lib.ListN.{getD, set}
 use lib.Seq.{getD-set-same, getD-set-other}
@@ -55,7 +55,7 @@ AccountIn s m t = Account (count s m) (maximum s m) t
 
 -- ---- what is entered
 -- a refusal is not answered with 0
-refused-not : (z : ℤ) → T (isNegative z) → isZero z ≡ false
+refused-not : (z : ℤ) → So (isNegative z) → isZero z ≡ false
 refused-not (pos n) h = absurd h
 refused-not (negsuc n) h = refl
 

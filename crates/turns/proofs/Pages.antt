@@ -3,7 +3,7 @@
 use mathlib.Core.Path.{_≡_, refl}
 use mathlib.Core.List.{List, [], _∷_, _++_}
 use Prim.Native.Nat.{ℕ}
-use lib.Dec.{T}
+use lib.Dec.{T as So}
 use Rattle.model.specs.declared.Context.{Context}
 use Rattle.model.specs.declared.Call.{Call}
 use Rattle.model.specs.declared.Call.the-variants.{TaskCreate, TaskDelete, TaskActivate, TaskExit, TaskTerminate, TaskSuspend, TaskReleaseWait, SemCreate, SemDelete, SemSignal, SemIsignal, SemAcquire, SemPolling, SemIpolling}
@@ -81,7 +81,7 @@ pages =
     page 1 activated (after (byTask (TaskTerminate 1)) (1 ∷ 0 ∷ 0 ∷ 1 ∷ 0 ∷ 0 ∷ []) ∷ after (byTask (SemSignal 1)) (1 ∷ 1 ∷ 1 ∷ 1 ∷ 0 ∷ 0 ∷ []) ∷ []) ∷
     []
 
-pub pages-agree : T (allAgree pages)
+pub pages-agree : So (allAgree pages)
 unfolding opened example everyTerm oneWaits activated pages reachedBy tally waitsEnded agrees allAgree
 pages-agree = tt
 

@@ -7,7 +7,7 @@ use mathlib.Core.Logic.{⊎-elim}
 use Prim.Native.Nat.{ℕ, zero, suc, _+_, _*_, _-_, _≤_, _<_}
 use native.Mathlib.Omega.{arith}
 use native.Mathlib.Nat.{mul-le-mul-right}
-use lib.Dec.{T}
+use lib.Dec.{T as So}
 use Rattle.model.specs.declared.State.{State}
 use Rattle.model.specs.declared.Context.{Context}
 use Rattle.model.specs.declared.Call.{Call}
@@ -66,10 +66,10 @@ module _ (l t : ℕ) (h : 1 ≤ l) where
           → FirstBy l t n s (a ∷ rest)
       goes b y zero d far turn enough more = absurd (behind s k far some (omega arith))
       goes true y (suc n) d far turn enough more =
-          let r : T (isCharged s a l) = rw y tt in
+          let r : So (isCharged s a l) = rw y tt in
           Say.charged r (more n (rw (d .steady) some) (rw (d .steady) (omega (arith, d .falls))) (omega arith))
       goes false y (suc n) d far turn enough more =
-          let r : T (not (isCharged s a l)) = rw y tt in
+          let r : So (not (isCharged s a l)) = rw y tt in
           Say.later r (more (suc n) (rw (d .steady) some) (rw (d .steady) (omega (arith, d .falls))) (omega arith))
 
 pub turns-come-round : TurnsComeRound

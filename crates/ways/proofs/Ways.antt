@@ -2,7 +2,7 @@
 -- A new service is one line here, and its own tests in Tasks or Objects; a new constructor of Done only if it does something new.
 use mathlib.Core.Bool.{Bool}
 use Prim.Native.Nat.{ℕ}
-use lib.Dec.{T}
+use lib.Dec.{T as So}
 use Rattle.model.specs.declared.State.{State}
 use Rattle.model.specs.declared.Context.{Context}
 use Rattle.model.specs.declared.Call.{Call}
@@ -67,6 +67,6 @@ unfolding planned
 way s c a = way-plan s (isMine c a) a
 
 -- the code of an answer has one digit
-pub step-digit : (s : State) (c : Context) (a : Call) → T (oneDigit (number (step s c a .code)))
+pub step-digit : (s : State) (c : Context) (a : Call) → So (oneDigit (number (step s c a .code)))
 unfolding step
 step-digit s c a = digit (way s c a)
