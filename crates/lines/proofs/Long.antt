@@ -28,7 +28,7 @@ use Rattle.lines.specs.declared.line.Line.the-variants.{Reads, Unreadabl
 use Rattle.lines.specs.declared.line.Header.{Header}
 use Rattle.lines.specs.declared.line.Header.the-variants.{Ends, NoHeader}
 use Rattle.lines.specs.Fields.{fieldOf, numberThen, commaField, endOf, lastField, tailField, narrowTail, wideTail, tailOf, fieldThen, tailThen, fieldsOf}
-use Rattle.lines.specs.Lines.{letterOf, letterThen, nameThen, fieldsThen, lineOf, headerThen, headed, headerOf}
+use Rattle.lines.specs.Lines.{letterOf, letterThen, nameThen, fieldsThen, lineOf, headerEndThen, headed, headerOf}
 use Rattle.services.proofs.Numbers.{both-left, both-right}
 use Rattle.services.proofs.Keys.{long}
 
@@ -134,9 +134,9 @@ line-has wide s = first (letterOf s)
 headed-has : (t : List ℕ) (wide : Bool) (s : List ℕ) → 17 + 2 * extra wide ≤ length t → HeaderHas (headed t wide s)
 unfolding headed
 headed-has t wide s h =
-    cond-by HeaderHas (begins s t) (headerThen (endOf (drop (length t) s)) (λ k. Ends wide (length t + k))) NoHeader (λ e. go (endOf (drop (length t) s))) tt
+    cond-by HeaderHas (begins s t) (headerEndThen (endOf (drop (length t) s)) (λ k. Ends wide (length t + k))) NoHeader (λ e. go (endOf (drop (length t) s))) tt
   where
-    go : (x : End) → HeaderHas (headerThen x (λ k. Ends wide (length t + k)))
+    go : (x : End) → HeaderHas (headerEndThen x (λ k. Ends wide (length t + k)))
     go (Closes k) = omega (arith, h)
     go NoEnd = tt
 

@@ -5,7 +5,7 @@ use mathlib.Core.Path.{_≡_, refl}
 use mathlib.Core.Bool.{Bool, true, false}
 use mathlib.Core.List.{List, [], _∷_}
 use Rattle.text.specs.Bytes.{bytes, begins}
-use Rattle.text.specs.Number.{isDigit, digits, valueAfter, ended, numberOf}
+use Rattle.text.specs.Number.{isDigit, digits, valueAfter, numeral, numberOf}
 use Rattle.model.specs.declared.Context.the-variants.{T, I}
 use Rattle.model.specs.declared.Call.the-variants.{TaskCreate, TaskExit, TaskSleep, TickIntProcessing, SemCreate, SemSignal, SemIsignal, SemAcquire, SemPolling, OnFlag}
 use Rattle.model.specs.declared.FlagService.the-variants.{Create, Wait, WaitPolling, Iwait}
@@ -96,11 +96,11 @@ wideRows =
     ∷ []
 
 pub lines-read : given false rows ≡ wanted rows
-unfolding rows lineOf letterOf nameOf nameIn label services tasks system semaphores flags service fieldsOf tailOf narrowTail fieldOf commaField lastField endOf numberOf ended valueAfter digits isDigit begins
+unfolding rows lineOf letterOf nameOf nameIn label services tasks system semaphores flags service fieldsOf tailOf narrowTail fieldOf commaField lastField endOf numberOf numeral valueAfter digits isDigit begins
 lines-read = refl
 
 pub wide-lines-read : given true wideRows ≡ wanted wideRows
-unfolding wideRows lineOf letterOf nameOf nameIn label services tasks system semaphores flags service fieldsOf tailOf wideTail fieldOf commaField lastField endOf numberOf ended valueAfter digits isDigit begins
+unfolding wideRows lineOf letterOf nameOf nameIn label services tasks system semaphores flags service fieldsOf tailOf wideTail fieldOf commaField lastField endOf numberOf numeral valueAfter digits isDigit begins
 wide-lines-read = refl
 
 abbrev pub headers : List Header

@@ -9,7 +9,7 @@ use native.Mathlib.Omega.{arith}
 use lib.ListN.{length, length-append}
 use borrow.Author.Tests.{ne-eqb, le-ltb}
 use Rattle.text.specs.Bytes.{bytes, begins}
-use Rattle.text.specs.Number.{isDigit, digits, valueAfter, ended, numberOf}
+use Rattle.text.specs.Number.{isDigit, digits, valueAfter, numeral, numberOf}
 use Rattle.text.specs.Decimal.{decimal, decimalIn}
 use Rattle.model.specs.declared.State.{State}
 use Rattle.model.specs.declared.Context.the-variants.{T, I}
@@ -60,7 +60,7 @@ last-line false = refl
 last-line true = refl
 
 create-line : (rest : List ℕ) → lineOf false (bytes "T,tn_task_create,10,1,1\n" ++ rest) ≡ Reads T (TaskCreate 10 1 1) 24
-unfolding lineOf letterOf nameOf nameIn services tasks system semaphores flags label begins service fieldsOf tailOf narrowTail commaField lastField fieldOf numberOf isDigit digits valueAfter ended
+unfolding lineOf letterOf nameOf nameIn services tasks system semaphores flags label begins service fieldsOf tailOf narrowTail commaField lastField fieldOf numberOf isDigit digits valueAfter numeral
 create-line rest = simp (feed rest)
 
 header-line : (rest : List ℕ) → headerOf (bytes "ctx,service,a,b,c\n" ++ rest) ≡ Ends false 18

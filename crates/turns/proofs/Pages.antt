@@ -10,7 +10,7 @@ use Rattle.model.specs.declared.Call.the-variants.{TaskCreate, TaskDelete, Task
 use Rattle.model.specs.State.{fresh}
 use Rattle.model.proofs.Words.{opened}
 use Rattle.turns.specs.Tally.{reachedBy, waitsEnded, tally}
-use Rattle.turns.specs.Ledger.{Line, Page, kernel, agrees, allAgree}
+use Rattle.turns.specs.Ledger.{Line, Page, kernel, linesAgree, allAgree}
 use Rattle.turns.proofs.Words.{byTask, byInterrupt, aTick}
 
 abbrev after : Context × Call → List ℕ → Line
@@ -82,7 +82,7 @@ pages =
     []
 
 pub pages-agree : So (allAgree pages)
-unfolding opened example everyTerm oneWaits activated pages reachedBy tally waitsEnded agrees allAgree
+unfolding opened example everyTerm oneWaits activated pages reachedBy tally waitsEnded linesAgree allAgree
 pages-agree = tt
 
 -- the records before and after that termination say what a served waiter's say: it waited, and now waits for nothing, with code 0
