@@ -3,17 +3,12 @@
 ghost use mathlib.Core.Path.{_≡_};
 ghost use lib.ListN.{length};
 ghost use Rattle.model.specs.Task.{ranOut};
-ghost use Rattle.model.specs.Flag.{flagRow};
 ghost use Rattle.model.specs.State.{moved, movedFrom};
 ghost use Rattle.model.specs.Effect.{chargedLevel, lapsed, toldAll};
 ghost use Rattle.tables.specs.Lent.{before, after};
 ghost use Rattle.effects.specs.Falling.{fallen, isDue, fallAll};
-ghost use Rattle.effects.specs.Seen.{semaphoreIn, flagIn};
-use model::Flag;
 use model::News;
-use model::Semaphore;
 use model::Task;
-use queues::lent::first_waiter;
 use queues::lent::relist_levels;
 use queues::lent::relist_waits;
 use queues::lent::turn_level;
@@ -24,39 +19,6 @@ use records::TIMEOUT;
 use stored::put_record;
 use stored::put_remaining;
 use stored::record_at;
-
-// ---- what a call looks at
-// The semaphore that a call names.
-pub fn semaphore_at(waits: &[u8; 504], numbers: &[u32; 107], m: usize) -> Semaphore
-    ensures { λ r. ⌜ r ≡ semaphoreIn (now (waits .entry)) (now (numbers .entry)) m ⌝ }
-{
-    Semaphore {
-        count: numbers::count_at(numbers, m),
-        maximum: numbers::maximum_at(numbers, m),
-        first: first_waiter(waits, m),
-    }
-}
-
-// The row of a flag's waiters; a number that names no flag has none.
-fn flag_row(f: usize) -> usize
-    ensures { λ r. ⌜ r ≡ flagRow f ⌝ }
-{
-    if 8 < f {
-        return 0;
-    }
-    records::flag_row(f as u8) as usize
-}
-
-// The flag that a call names.
-pub fn flag_at(waits: &[u8; 504], numbers: &[u32; 107], f: usize) -> Flag
-    ensures { λ r. ⌜ r ≡ flagIn (now (waits .entry)) (now (numbers .entry)) f ⌝ }
-{
-    Flag {
-        attributes: numbers::attributes_at(numbers, f),
-        bits: numbers::bits_at(numbers, f),
-        first: first_waiter(waits, flag_row(f)),
-    }
-}
 
 // ---- one task moves: its record k becomes x, and the queues follow the two. The one mover; whoever has read k hands it on.
 pub fn move_from(

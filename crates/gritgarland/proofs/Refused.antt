@@ -1,4 +1,4 @@
--- A reply that refuses has the state of the call. Rests on the same theorem of every call (kept) and, where
+-- A reply that refuses has the state of the call. Rests on the same theorem of every call (soundness) and, where
 -- the numbers name no call, on the border's definition.
 use mathlib.Core.Path.{_≡_, refl}
 use mathlib.Core.Bool.{Bool, true, false, cond}
@@ -13,7 +13,7 @@ use Rattle.services.specs.declared.calls.Asked.{Asked}
 use Rattle.services.specs.declared.calls.Asked.the-variants.{Named, Nothing}
 use Rattle.services.specs.Calls.{asked}
 use Rattle.border.specs.Border.{contextOf, unknown, answered, reply}
-use Rattle.kept.proofs.Kept.{refused-call-is-unchanged}
+use Rattle.soundness.proofs.Soundness.{refused-call-is-unchanged}
 
 -- a test picks one of two answers
 picked : (s : State) (b : Bool) (x y : Answer) → x .state ≡ s → y .state ≡ s → cond b x y .state ≡ s

@@ -1,5 +1,5 @@
 // Every entry that callers in other languages have, each a thin relay with the promise of what it relays.
-// include/gritgarland.h declares them. Rests on the border, the test of soundness, the runner and, for what a refusal leaves, kept.
+// include/gritgarland.h declares them. Rests on the border, the test of soundness, the runner and, for what a refusal leaves, soundness.
 ghost use mathlib.Core.Path.{_≡_};
 ghost use mathlib.Core.Bool.{true};
 ghost use lib.ListN.{length};
@@ -7,7 +7,7 @@ ghost use Rattle.model.specs.Code.{isNegative};
 ghost use Rattle.model.specs.Test.{isSound};
 ghost use Rattle.border.specs.Border.{reply};
 ghost use Rattle.gritgarland.specs.Report.{reportOf};
-ghost use Rattle.runner.specs.Outcome.{ranOf, numberOf, bufferOf};
+ghost use Rattle.runner.specs.Outcome.{ranOf, signedOf, bufferOf};
 use border::Reply;
 use model::State;
 
@@ -70,7 +70,7 @@ pub extern "C" fn gritgarland_is_sound(s: State) -> bool
 // A whole list of calls: the file's bytes and an answer buffer in, one signed number out.
 #[no_mangle]
 pub extern "C" fn run_list(file: &[u8], answer: &mut [u8]) -> i64
-    ensures { λ r. ⌜ (r ≡ numberOf (ranOf (now (file .entry)) (length (now (answer .entry))))) × (now (answer .exit) ≡ bufferOf (ranOf (now (file .entry)) (length (now (answer .entry)))) (now (file .entry)) (now (answer .entry))) ⌝ }
+    ensures { λ r. ⌜ (r ≡ signedOf (ranOf (now (file .entry)) (length (now (answer .entry))))) × (now (answer .exit) ≡ bufferOf (ranOf (now (file .entry)) (length (now (answer .entry)))) (now (file .entry)) (now (answer .entry))) ⌝ }
 {
     runner::run_list(file, answer)
 }

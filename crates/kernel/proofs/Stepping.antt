@@ -4,10 +4,7 @@ use mathlib.Core.Path.{_≡_, refl, sym, ap, _∙_}
 use mathlib.Core.Bool.{Bool, true, false, not}
 use Prim.Native.Nat.{ℕ}
 use borrow.Author.Tests.{not-true, not-false}
-use Rattle.model.specs.declared.Task.{Task}
 use Rattle.model.specs.declared.State.{State}
-use Rattle.model.specs.declared.Semaphore.{Semaphore}
-use Rattle.model.specs.declared.Flag.{Flag}
 use Rattle.model.specs.declared.Context.{Context}
 use Rattle.model.specs.declared.Call.{Call}
 use Rattle.model.specs.declared.Plan.{Plan}
@@ -16,30 +13,27 @@ use Rattle.model.specs.declared.Context.the-variants.{I}
 use Rattle.model.specs.declared.Call.the-variants.{TickIntProcessing}
 use Rattle.model.specs.declared.Code.the-variants.{NoErr, WContext, Unsound}
 use Rattle.model.specs.Row.{bestFrom}
-use Rattle.model.specs.State.{task, running, semaphore, flag}
+use Rattle.model.specs.State.{running}
 use Rattle.model.specs.Service.{tick}
-use Rattle.model.specs.Services.{service, services, tasks, system, semaphores, events, same, isMine}
+use Rattle.model.specs.Services.{service, services, tasks, system, semaphores, flags, same, isMine}
 use Rattle.model.specs.Effect.{tickedFrom, carriedFrom, carried}
-use Rattle.model.specs.Call.{named, subject, plan, planned, stepFrom, step, call}
+use Rattle.model.specs.Call.{plan, plannedFrom, planned, stepFrom, step, call}
 use Rattle.model.specs.Test.{isSound}
 
-pub stepped : (s : State) (c : Context) (a : Call) (run m : ℕ) (x : Semaphore) (y : Flag) (t : ℕ) (k : Task) (p : Plan) (s₁ : State) (run₁ : ℕ)
-    → m ≡ named a → x ≡ semaphore s m → y ≡ flag s m → t ≡ subject a run (x .first) (y .first) → k ≡ task s t → p ≡ plan (isMine c a) a run k x y
-    → s₁ ≡ carriedFrom run s (p .effect) → run₁ ≡ bestFrom 30 1 (s₁ .levels)
+pub stepped : (s : State) (c : Context) (a : Call) (run : ℕ) (p : Plan) (s₁ : State) (run₁ : ℕ)
+    → p ≡ plannedFrom run s c a → s₁ ≡ carriedFrom run s (p .effect) → run₁ ≡ bestFrom 30 1 (s₁ .levels)
     → record { code = p .code; running = run₁; value = p .value; state = s₁ } ≡ stepFrom run s c a
 unfolding running
-stepped s c a run m x y t k p s₁ run₁ e₂ e₃ e₉ e₄ e₅ e₆ e₇ e₈ =
-    let q : p ≡ plan (isMine c a) a run (task s (subject a run (semaphore s (named a) .first) (flag s (named a) .first))) (semaphore s (named a)) (flag s (named a)) = rw (e₅, e₄, e₉, e₃, e₂) at e₆ in
-    rw (← q, e₈, e₇)
+stepped s c a run p s₁ run₁ e f g = rw (g, f, e)
 
 -- a tick, which looks at no record
 module _ (run : ℕ) (s : State) (c : Context) (mine : Bool) (e : mine ≡ same c I) (run₁ : ℕ) where
   pub tick-refused : not mine ≡ true → run₁ ≡ bestFrom 30 1 (s .levels) → record { code = WContext; running = run₁; value = 0; state = s } ≡ stepFrom run s c TickIntProcessing
-  unfolding plan tick isMine service services tasks system semaphores events running
+  unfolding plan tick isMine service services tasks system semaphores flags running
   tick-refused h f = rw (← e, not-true mine h, f)
 
   pub tick-passes : (s₁ : State) → not mine ≡ false → s₁ ≡ tickedFrom run s → run₁ ≡ bestFrom 30 1 (s₁ .levels) → record { code = NoErr; running = run₁; value = 0; state = s₁ } ≡ stepFrom run s c TickIntProcessing
-  unfolding plan tick isMine service services tasks system semaphores events running
+  unfolding plan tick isMine service services tasks system semaphores flags running
   tick-passes s₁ h d f = rw (← e, not-false mine h, f, d)
 
 -- a call

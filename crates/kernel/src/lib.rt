@@ -99,11 +99,7 @@ pub fn step_in(
     if let Call::TickIntProcessing = a {
         return tick_in(bytes, words, levels, waits, numbers, run, c);
     }
-    let named = plans::named(a);
-    let x = effects::semaphore_at(waits, numbers, named);
-    let y = effects::flag_at(waits, numbers, named);
-    let k = stored::record_at(bytes, words, plans::subject(a, run, x.first, y.first));
-    let p = plans::plan(c, a, run, k, x, y);
+    let p = plans::plan_in(bytes, words, levels, waits, numbers, run, c, a);
     let code = p.code;
     let value = p.value;
     let effect = p.effect;

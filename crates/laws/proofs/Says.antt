@@ -5,28 +5,28 @@ use mathlib.Core.Bool.{Bool, true, false, cond, not, _&&_, _||_}
 use mathlib.Core.Logic.{_⊎_, inl, inr, ⊎-elim}
 use Prim.Native.Nat.{ℕ, zero, suc, _≤_, _<_}
 use native.Mathlib.Omega.{arith}
-use lib.Dec.{T, eqb, leb, ltb, leb→le, le→leb, ltb→lt, lt→ltb, eqb→eq, eqb-refl}
+use lib.Dec.{T as So, eqb, leb, ltb, leb→le, le→leb, ltb→lt, lt→ltb, eqb→eq, eqb-refl}
 use Rattle.model.specs.Plan.{within}
 use Rattle.model.specs.Test.{implies, below}
 use Rattle.laws.proofs.Number.{same?, below?}
 
 pub record Says (b : Bool) (A : Type 0) : Type 0 where
-  pub yields : T b → A
-  pub tests : A → T b
+  pub yields : So b → A
+  pub tests : A → So b
 
 pub says-as : {b : Bool} {A B : Type 0} → (A → B) → (B → A) → Says b A → Says b B
 says-as f g h = record { yields = λ t. f (h .yields t); tests = λ x. h .tests (g x) }
 
-pub says-same : (b : Bool) → Says b (T b)
+pub says-same : (b : Bool) → Says b (So b)
 says-same b = record { yields = λ t. t; tests = λ t. t }
 
 pub says-false : (b : Bool) → Says (not b) (b ≡ false)
-says-false true = record { yields = λ t. absurd t; tests = λ e. subst (λ (b : Bool). T (not b)) (sym e) tt }
+says-false true = record { yields = λ t. absurd t; tests = λ e. subst (λ (b : Bool). So (not b)) (sym e) tt }
 says-false false = record { yields = λ t. refl; tests = λ e. tt }
 
 -- ---- numbers
 pub says-eq : {m n : ℕ} → Says (eqb m n) (m ≡ n)
-says-eq {m} {n} = record { yields = eqb→eq m n; tests = λ e. subst (λ k. T (eqb m k)) e (eqb-refl m) }
+says-eq {m} {n} = record { yields = eqb→eq m n; tests = λ e. subst (λ k. So (eqb m k)) e (eqb-refl m) }
 
 pub says-le : {m n : ℕ} → Says (leb m n) (m ≤ n)
 says-le {m} {n} = record { yields = leb→le m n; tests = le→leb m n }

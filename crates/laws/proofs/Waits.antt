@@ -4,7 +4,7 @@ use mathlib.Core.Path.{_≡_, refl}
 use mathlib.Core.Logic.{_⊎_, inl}
 use Prim.Native.Nat.{ℕ, _≤_}
 use native.Mathlib.Omega.{arith}
-use lib.Dec.{T}
+use lib.Dec.{T as So}
 use Rattle.model.specs.declared.Wait.{Wait}
 use Rattle.model.specs.declared.Task.{Task}
 use Rattle.model.specs.Task.{noWait, nothing, aSleep, aSemaphore, aFlag}
@@ -59,7 +59,7 @@ module _ (x : Task) where
   ask-of k = record { asks = k .asks; silent = k .silent }
 
   pub sound-of : (1 ≤ x .base) × (x .base ≤ 30) → (1 ≤ x .priority) × (x .priority ≤ 30) → x .active ≤ 1 → x .suspended ≤ 1 → x .wakeups ≤ 1 → x .activations ≤ 1
-      → T (isWaitCode (x .code)) → (x .active ≡ 0 → Resting x) → WaitOf x → SoundAsk (x .wait) → SoundTask x
+      → So (isWaitCode (x .code)) → (x .active ≡ 0 → Resting x) → WaitOf x → SoundAsk (x .wait) → SoundTask x
   sound-of base priority active suspended wakeups activations code dormant w a = record {
     blank = λ e. absurd (omega arith);
     base = base .1;

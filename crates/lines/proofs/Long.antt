@@ -11,7 +11,7 @@ use Rattle.text.specs.declared.number.Number.the-variants.{Digits, NoNumber}
 use Rattle.text.specs.Bytes.{bytes, begins}
 use Rattle.text.proofs.Reading.{cond-by}
 use Rattle.model.specs.declared.Context.{Context}
-use Rattle.model.specs.Services.{Service, tasks, system, semaphores, events, services, service}
+use Rattle.model.specs.Services.{Service, tasks, system, semaphores, flags, services, service}
 use Rattle.services.specs.declared.names.Name.{Name}
 use Rattle.services.specs.declared.names.Name.the-variants.{Known, Unknown}
 use Rattle.services.specs.Names.{label, nameIn, nameOf}
@@ -28,7 +28,7 @@ use Rattle.lines.specs.declared.line.Line.the-variants.{Reads, Unreadabl
 use Rattle.lines.specs.declared.line.Header.{Header}
 use Rattle.lines.specs.declared.line.Header.the-variants.{Ends, NoHeader}
 use Rattle.lines.specs.Fields.{fieldOf, numberThen, commaField, endOf, lastField, tailField, narrowTail, wideTail, tailOf, fieldThen, tailThen, fieldsOf}
-use Rattle.lines.specs.Lines.{letterOf, letterThen, nameThen, fieldsThen, lineOf, headerThen, headed, headerOf}
+use Rattle.lines.specs.Lines.{letterOf, letterThen, nameThen, fieldsThen, lineOf, headerEndThen, headed, headerOf}
 use Rattle.services.proofs.Numbers.{both-left, both-right}
 use Rattle.services.proofs.Keys.{long}
 
@@ -69,7 +69,7 @@ name-among (x ∷ xs) t k s =
     (λ e. leb→le 13 (length (label x)) (both-left (leb 13 (length (label x))) (long xs) t)) (name-among xs (both-right (leb 13 (length (label x))) (long xs) t) (k + 1) s)
 
 pub name-has : (s : List ℕ) → NameHas (nameOf s)
-unfolding nameOf services tasks system semaphores events long label
+unfolding nameOf services tasks system semaphores flags long label
 name-has s = name-among services tt 1 s
 
 pub comma-has : (used : Bool) (s : List ℕ) → NumberHas (commaField used s)
@@ -134,9 +134,9 @@ line-has wide s = first (letterOf s)
 headed-has : (t : List ℕ) (wide : Bool) (s : List ℕ) → 17 + 2 * extra wide ≤ length t → HeaderHas (headed t wide s)
 unfolding headed
 headed-has t wide s h =
-    cond-by HeaderHas (begins s t) (headerThen (endOf (drop (length t) s)) (λ k. Ends wide (length t + k))) NoHeader (λ e. go (endOf (drop (length t) s))) tt
+    cond-by HeaderHas (begins s t) (headerEndThen (endOf (drop (length t) s)) (λ k. Ends wide (length t + k))) NoHeader (λ e. go (endOf (drop (length t) s))) tt
   where
-    go : (x : End) → HeaderHas (headerThen x (λ k. Ends wide (length t + k)))
+    go : (x : End) → HeaderHas (headerEndThen x (λ k. Ends wide (length t + k)))
     go (Closes k) = omega (arith, h)
     go NoEnd = tt
 

@@ -5,11 +5,11 @@ use mathlib.Core.Path.{_≡_, refl}
 use mathlib.Core.Bool.{Bool, true, false}
 use mathlib.Core.List.{List, [], _∷_}
 use Rattle.text.specs.Bytes.{bytes, begins}
-use Rattle.text.specs.Number.{isDigit, digits, valueAfter, ended, numberOf}
+use Rattle.text.specs.Number.{isDigit, digits, valueAfter, numeral, numberOf}
 use Rattle.model.specs.declared.Context.the-variants.{T, I}
-use Rattle.model.specs.declared.Call.the-variants.{TaskCreate, TaskExit, TaskSleep, TickIntProcessing, SemCreate, SemSignal, SemIsignal, SemAcquire, SemPolling, Event}
-use Rattle.model.specs.declared.Event.the-variants.{Create, Wait, WaitPolling, Iwait}
-use Rattle.model.specs.Services.{tasks, system, semaphores, events, services, service}
+use Rattle.model.specs.declared.Call.the-variants.{TaskCreate, TaskExit, TaskSleep, TickIntProcessing, SemCreate, SemSignal, SemIsignal, SemAcquire, SemPolling, OnFlag}
+use Rattle.model.specs.declared.FlagService.the-variants.{Create, Wait, WaitPolling, Iwait}
+use Rattle.model.specs.Services.{tasks, system, semaphores, flags, services, service}
 use Rattle.services.specs.Names.{label, nameIn, nameOf}
 use Rattle.lines.specs.declared.line.Line.{Line}
 use Rattle.lines.specs.declared.line.Line.the-variants.{Reads, Unreadable}
@@ -71,9 +71,9 @@ rows =
     ∷ ("T,tn_task_isuspend,1,,\n" reads Unreadable)
     ∷ ("T,tn_task_exi,,,\n" reads Unreadable)
     -- the flags: all but the wait, whose timeout has no field
-    ∷ ("T,tn_event_create,8,3,0\n" reads Reads T (Event 8 (Create 3 0)) 24)
-    ∷ ("T,tn_event_wait_polling,1,1,0\n" reads Reads T (Event 1 (WaitPolling 1 0)) 30)
-    ∷ ("I,tn_event_iwait,1,1,0\n" reads Reads I (Event 1 (Iwait 1 0)) 23)
+    ∷ ("T,tn_event_create,8,3,0\n" reads Reads T (OnFlag 8 (Create 3 0)) 24)
+    ∷ ("T,tn_event_wait_polling,1,1,0\n" reads Reads T (OnFlag 1 (WaitPolling 1 0)) 30)
+    ∷ ("I,tn_event_iwait,1,1,0\n" reads Reads I (OnFlag 1 (Iwait 1 0)) 23)
     ∷ ("T,tn_event_wait,1,1,0\n" reads Unreadable)
     ∷ ("T,tn_event_wait,1,1,0,4294967295\n" reads Unreadable)
     ∷ ("T,tn_event_wate,1,1,0\n" reads Unreadable)
@@ -83,10 +83,10 @@ rows =
 -- under the header of six fields
 pub wideRows : List Row
 wideRows =
-    ("T,tn_event_wait,1,1,0,4294967295\n" reads Reads T (Event 1 (Wait 1 0 4294967295)) 33)
+    ("T,tn_event_wait,1,1,0,4294967295\n" reads Reads T (OnFlag 1 (Wait 1 0 4294967295)) 33)
     ∷ ("T,tn_task_exit,,,,\n" reads Reads T TaskExit 19)
     ∷ ("T,tn_sem_acquire,1,2,,\r\n" reads Reads T (SemAcquire 1 2) 24)
-    ∷ ("T,tn_event_wait_polling,1,1,0," reads Reads T (Event 1 (WaitPolling 1 0)) 30)
+    ∷ ("T,tn_event_wait_polling,1,1,0," reads Reads T (OnFlag 1 (WaitPolling 1 0)) 30)
     ∷ ("T,tn_task_exit,,,\n" reads Unreadable)
     ∷ ("T,tn_event_wait,1,1,0\n" reads Unreadable)
     ∷ ("T,tn_event_wait,1,1,0,\n" reads Unreadable)
@@ -96,11 +96,11 @@ wideRows =
     ∷ []
 
 pub lines-read : given false rows ≡ wanted rows
-unfolding rows lineOf letterOf nameOf nameIn label services tasks system semaphores events service fieldsOf tailOf narrowTail fieldOf commaField lastField endOf numberOf ended valueAfter digits isDigit begins
+unfolding rows lineOf letterOf nameOf nameIn label services tasks system semaphores flags service fieldsOf tailOf narrowTail fieldOf commaField lastField endOf numberOf numeral valueAfter digits isDigit begins
 lines-read = refl
 
 pub wide-lines-read : given true wideRows ≡ wanted wideRows
-unfolding wideRows lineOf letterOf nameOf nameIn label services tasks system semaphores events service fieldsOf tailOf wideTail fieldOf commaField lastField endOf numberOf ended valueAfter digits isDigit begins
+unfolding wideRows lineOf letterOf nameOf nameIn label services tasks system semaphores flags service fieldsOf tailOf wideTail fieldOf commaField lastField endOf numberOf numeral valueAfter digits isDigit begins
 wide-lines-read = refl
 
 abbrev pub headers : List Header

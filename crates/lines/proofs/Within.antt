@@ -33,7 +33,7 @@ use Rattle.lines.specs.declared.line.Line.the-variants.{Reads, Unreadabl
 use Rattle.lines.specs.declared.line.Header.{Header}
 use Rattle.lines.specs.declared.line.Header.the-variants.{Ends, NoHeader}
 use Rattle.lines.specs.Fields.{fieldOf, numberThen, commaField, endOf, endThen, lastField, tailField, narrowTail, wideTail, tailOf, fieldThen, tailThen, fieldsOf}
-use Rattle.lines.specs.Lines.{letterOf, letterThen, nameThen, fieldsThen, lineOf, headerThen, headed, headerOf}
+use Rattle.lines.specs.Lines.{letterOf, letterThen, nameThen, fieldsThen, lineOf, headerEndThen, headed, headerOf}
 
 -- each answer's length is at most that
 abbrev pub EndIn : End → ℕ → Type 0
@@ -191,10 +191,10 @@ line-in wide s = first (letterOf s) (letter-in s)
 headed-in : (t : List ℕ) (wide : Bool) (s : List ℕ) → HeaderIn (headed t wide s) (length s)
 unfolding headed
 headed-in t wide s =
-    cond-by (λ (h : Header). HeaderIn h (length s)) (begins s t) (headerThen (endOf (drop (length t) s)) (λ k. Ends wide (length t + k))) NoHeader
+    cond-by (λ (h : Header). HeaderIn h (length s)) (begins s t) (headerEndThen (endOf (drop (length t) s)) (λ k. Ends wide (length t + k))) NoHeader
     (λ e. go (begins-in s t e) (endOf (drop (length t) s)) (end-in (drop (length t) s))) tt
   where
-    go : length t ≤ length s → (x : End) → EndIn x (length (drop (length t) s)) → HeaderIn (headerThen x (λ k. Ends wide (length t + k))) (length s)
+    go : length t ≤ length s → (x : End) → EndIn x (length (drop (length t) s)) → HeaderIn (headerEndThen x (λ k. Ends wide (length t + k))) (length s)
     go h (Closes k) g = after s (length t) k h g
     go h NoEnd g = tt
 

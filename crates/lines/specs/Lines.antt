@@ -47,13 +47,13 @@ lineOf wide s =
     fieldsThen (fieldsOf wide takes (drop (2 + n) s)) (λ a b c d m.
     Reads x (service k .call a b c d) (2 + n + m))))
 
-abbrev pub headerThen : End → (ℕ → Header) → Header
-headerThen (Closes k) f = f k
-headerThen NoEnd f = NoHeader
+abbrev pub headerEndThen : End → (ℕ → Header) → Header
+headerEndThen (Closes k) f = f k
+headerEndThen NoEnd f = NoHeader
 
 -- the header t and its line end
 unfoldable pub headed : List ℕ → Bool → List ℕ → Header
-headed t wide s = cond (begins s t) (headerThen (endOf (drop (length t) s)) (λ k. Ends wide (length t + k))) NoHeader
+headed t wide s = cond (begins s t) (headerEndThen (endOf (drop (length t) s)) (λ k. Ends wide (length t + k))) NoHeader
 
 -- its lines are wide, of six fields, or of five
 unfoldable pub headerOf : List ℕ → Header

@@ -1,11 +1,11 @@
 -- The code and the running task that a call answers in a sound state have at most two bytes each as text, and three in all while nobody runs.
--- It rests on codes having one digit (ways), on who runs in a sound state, and on refusals changing nothing (kept).
+-- It rests on codes having one digit (ways), on who runs in a sound state, and on refusals changing nothing (soundness).
 use mathlib.Core.Path.{_≡_, refl, sym, ap}
 use mathlib.Core.Bool.{Bool, true, false, false≢true}
 use Prim.Native.Nat.{suc, _+_, _≤_, _<_}
 use native.Mathlib.Omega.{arith}
 use native.Mathlib.Decide.{decLe}
-use lib.Dec.{T, ltb→lt}
+use lib.Dec.{T as So, ltb→lt}
 use lib.IntN.{ℤ, pos, negsuc}
 use lib.ListN.{length}
 use Rattle.text.specs.Decimal.{decimal}
@@ -19,18 +19,18 @@ use Rattle.model.specs.Call.{step}
 use Rattle.model.specs.Sound.{Sound}
 use Rattle.ways.proofs.Done.{oneDigit}
 use Rattle.ways.proofs.Ways.{step-digit}
-use Rattle.kept.proofs.Kept.{sound-stays-sound, refused-is-unchanged}
-use Rattle.kept.proofs.Running.{runner}
+use Rattle.soundness.proofs.Soundness.{sound-stays-sound, refused-is-unchanged}
+use Rattle.soundness.proofs.Running.{runner}
 use Rattle.walk.specs.Rows.{signed}
 use Rattle.runner.proofs.Widths.{width-most}
 
 -- ---- codes
-signed-most : (z : ℤ) → T (oneDigit z) → length (signed z) ≤ 2
+signed-most : (z : ℤ) → So (oneDigit z) → length (signed z) ≤ 2
 signed-most (pos n) h = omega (arith, width-one n (omega (arith, ltb→lt n 10 h)))
 signed-most (negsuc n) h = omega (arith, width-one (suc n) (omega (arith, ltb→lt n 9 h)))
 
 -- without a sign
-signed-one : (z : ℤ) → T (oneDigit z) → isNegative z ≡ false → length (signed z) ≤ 1
+signed-one : (z : ℤ) → So (oneDigit z) → isNegative z ≡ false → length (signed z) ≤ 1
 signed-one (pos n) h e = omega (arith, width-one n (omega (arith, ltb→lt n 10 h)))
 signed-one (negsuc n) h e = absurd (false≢true (sym e))
 

@@ -29,7 +29,7 @@ use Rattle.lines.specs.declared.line.Header.the-variants.{Ends, NoHeader}
 use Rattle.model.specs.Services.{service}
 use Rattle.services.specs.Names.{nameOf}
 use Rattle.lines.specs.Fields.{fieldOf, numberThen, commaField, endOf, endThen, lastField, tailField, narrowTail, wideTail, tailOf, fieldThen, tailThen, fieldsOf}
-use Rattle.lines.specs.Lines.{letterOf, letterThen, nameThen, fieldsThen, lineOf, headerThen, headed, headerOf}
+use Rattle.lines.specs.Lines.{letterOf, letterThen, nameThen, fieldsThen, lineOf, headerEndThen, headed, headerOf}
 use Rattle.lines.proofs.Long.{extra, NameHas, name-has, NumberHas, comma-has}
 
 -- of l bytes an answer takes n: that many at least, if more follow
@@ -143,10 +143,10 @@ line-ends wide s = first (letterOf s)
 headed-ends : (t : List ℕ) (wide : Bool) (s : List ℕ) → 17 + 2 * extra wide ≤ length t → HeaderEnds (headed t wide s) (length s)
 unfolding headed
 headed-ends t wide s h =
-    cond-by (λ (x : Header). HeaderEnds x (length s)) (begins s t) (headerThen (endOf (drop (length t) s)) (λ k. Ends wide (length t + k))) NoHeader
+    cond-by (λ (x : Header). HeaderEnds x (length s)) (begins s t) (headerEndThen (endOf (drop (length t) s)) (λ k. Ends wide (length t + k))) NoHeader
     (λ _. go (endOf (drop (length t) s)) (end-ends (drop (length t) s))) tt
   where
-    go : (x : End) → EndEnds x (length (drop (length t) s)) → HeaderEnds (headerThen x (λ k. Ends wide (length t + k))) (length s)
+    go : (x : End) → EndEnds x (length (drop (length t) s)) → HeaderEnds (headerEndThen x (λ k. Ends wide (length t + k))) (length s)
     go (Closes k) g = after s (length t) k (18 + 2 * extra wide) 1 g (omega (arith, h))
     go NoEnd g = tt
 

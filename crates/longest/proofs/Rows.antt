@@ -1,5 +1,5 @@
 -- How long the text of a script's rows is at most: the digits of the call numbers and eight bytes a row, the first row's code and task taking one byte less.
--- It rests on Codes, and on the laws of kept and tested: every state on the way is sound, so each checked call is the step.
+-- It rests on Codes, and on the laws of soundness and tested: every state on the way is sound, so each checked call is the step.
 use mathlib.Core.Path.{_≡_, refl, sym, subst}
 use mathlib.Core.List.{List, _∷_}
 use Prim.Native.Nat.{ℕ, zero, suc, _+_, _-_, _*_, _≤_}
@@ -14,7 +14,7 @@ use Rattle.model.specs.State.{fresh, running}
 use Rattle.model.specs.Code.{number}
 use Rattle.model.specs.Call.{step, call}
 use Rattle.model.specs.Sound.{Sound}
-use Rattle.kept.proofs.Kept.{fresh-is-sound, sound-stays-sound}
+use Rattle.soundness.proofs.Soundness.{fresh-is-sound, sound-stays-sound}
 use Rattle.tested.proofs.Same.{sound-exactly}
 use Rattle.walk.specs.Script.{Script, done, fault, next}
 use Rattle.walk.specs.Rows.{Row, rowsBy, rowsOf, signed, rowText, rowsText}

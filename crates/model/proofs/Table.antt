@@ -2,7 +2,7 @@
 -- that is computed over the very definitions that the kernel's contracts cite. A damaged definition is refused here.
 use mathlib.Core.List.{List, [], _∷_}
 use Prim.Native.Nat.{ℕ}
-use lib.Dec.{T}
+use lib.Dec.{T as So}
 use Rattle.model.specs.declared.State.{State}
 use Rattle.model.specs.declared.Call.{Call}
 use Rattle.model.specs.declared.Call.the-variants.{TaskCreate, TaskActivate, TaskExit, TaskTerminate, TaskSuspend, TaskResume, TaskSleep, TaskWakeup, TaskIwakeup, TaskChangePriority, SysTsliceTicks, SemCreate, SemDelete, SemSignal, SemIsignal, SemAcquire, SemPolling}
@@ -90,6 +90,6 @@ table =
     ∷ ticks 1 ∷ shows (charged 6) (1 ∷ []) ∷ shows (charged 5) (0 ∷ []) ∷ [])
     ∷ []
 
-pub bench : T (allHold table)
+pub bench : So (allHold table)
 unfolding opened table late
 bench = tt

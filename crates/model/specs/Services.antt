@@ -9,15 +9,15 @@ use Rattle.model.specs.declared.Context.{Context}
 use Rattle.model.specs.declared.Context.the-variants.{T, I}
 use Rattle.model.specs.declared.Call.{Call}
 use Rattle.model.specs.declared.Call.the-variants.{TaskCreate, TaskDelete, TaskActivate, TaskIactivate, TaskExit, TaskTerminate, TaskSuspend, TaskResume, TaskSleep, TaskWakeup, TaskIwakeup, TaskReleaseWait, TaskIreleaseWait, TaskChangePriority}
-use Rattle.model.specs.declared.Call.the-variants.{SysTsliceTicks, TickIntProcessing, SemCreate, SemDelete, SemSignal, SemIsignal, SemAcquire, SemPolling, SemIpolling, Event}
-use Rattle.model.specs.declared.Event as Events
-use Rattle.model.specs.declared.Event.the-variants.{Create, Delete, Set, Iset, Clear, Iclear, Wait, WaitPolling, Iwait}
+use Rattle.model.specs.declared.Call.the-variants.{SysTsliceTicks, TickIntProcessing, SemCreate, SemDelete, SemSignal, SemIsignal, SemAcquire, SemPolling, SemIpolling, OnFlag}
+use Rattle.model.specs.declared.FlagService.{FlagService}
+use Rattle.model.specs.declared.FlagService.the-variants.{Create, Delete, Set, Iset, Clear, Iclear, Wait, WaitPolling, Iwait}
 
 -- what a number of a call is
 pub data Field : Type 0 where
-  aTask aPriority anOption aLevel aSlice aTimeout : Field
-  aSemaphore aStart aMaximum : Field
-  aFlag anAttribute someBits aPattern aMode : Field
+  theTask thePriority theOption theLevel theSlice theTimeout : Field
+  theSemaphore theStart theMaximum : Field
+  theFlag theAttributes theBits thePattern theMode : Field
 
 pub record Service : Type 0 where
   pub name : String
@@ -27,66 +27,66 @@ pub record Service : Type 0 where
   -- the call that a, b, c and d make
   pub call : ℕ → ℕ → ℕ → ℕ → Call
 
-abbrev row : String → Context → List Field → (ℕ → ℕ → ℕ → ℕ → Call) → Service
-row t c fs f = record { name = t; context = c; fields = fs; call = f }
+abbrev aService : String → Context → List Field → (ℕ → ℕ → ℕ → ℕ → Call) → Service
+aService t c fs f = record { name = t; context = c; fields = fs; call = f }
 
 -- those on tasks
 unfoldable pub tasks : List Service
 tasks =
-    row "tn_task_create" T (aTask ∷ aPriority ∷ anOption ∷ []) (λ a b c d. TaskCreate a b c)
-    ∷ row "tn_task_delete" T (aTask ∷ []) (λ a b c d. TaskDelete a)
-    ∷ row "tn_task_activate" T (aTask ∷ []) (λ a b c d. TaskActivate a)
-    ∷ row "tn_task_iactivate" I (aTask ∷ []) (λ a b c d. TaskIactivate a)
-    ∷ row "tn_task_exit" T [] (λ a b c d. TaskExit)
-    ∷ row "tn_task_terminate" T (aTask ∷ []) (λ a b c d. TaskTerminate a)
-    ∷ row "tn_task_suspend" T (aTask ∷ []) (λ a b c d. TaskSuspend a)
-    ∷ row "tn_task_resume" T (aTask ∷ []) (λ a b c d. TaskResume a)
-    ∷ row "tn_task_sleep" T (aTimeout ∷ []) (λ a b c d. TaskSleep a)
-    ∷ row "tn_task_wakeup" T (aTask ∷ []) (λ a b c d. TaskWakeup a)
-    ∷ row "tn_task_iwakeup" I (aTask ∷ []) (λ a b c d. TaskIwakeup a)
-    ∷ row "tn_task_release_wait" T (aTask ∷ []) (λ a b c d. TaskReleaseWait a)
-    ∷ row "tn_task_irelease_wait" I (aTask ∷ []) (λ a b c d. TaskIreleaseWait a)
-    ∷ row "tn_task_change_priority" T (aTask ∷ aPriority ∷ []) (λ a b c d. TaskChangePriority a b)
+    aService "tn_task_create" T (theTask ∷ thePriority ∷ theOption ∷ []) (λ a b c d. TaskCreate a b c)
+    ∷ aService "tn_task_delete" T (theTask ∷ []) (λ a b c d. TaskDelete a)
+    ∷ aService "tn_task_activate" T (theTask ∷ []) (λ a b c d. TaskActivate a)
+    ∷ aService "tn_task_iactivate" I (theTask ∷ []) (λ a b c d. TaskIactivate a)
+    ∷ aService "tn_task_exit" T [] (λ a b c d. TaskExit)
+    ∷ aService "tn_task_terminate" T (theTask ∷ []) (λ a b c d. TaskTerminate a)
+    ∷ aService "tn_task_suspend" T (theTask ∷ []) (λ a b c d. TaskSuspend a)
+    ∷ aService "tn_task_resume" T (theTask ∷ []) (λ a b c d. TaskResume a)
+    ∷ aService "tn_task_sleep" T (theTimeout ∷ []) (λ a b c d. TaskSleep a)
+    ∷ aService "tn_task_wakeup" T (theTask ∷ []) (λ a b c d. TaskWakeup a)
+    ∷ aService "tn_task_iwakeup" I (theTask ∷ []) (λ a b c d. TaskIwakeup a)
+    ∷ aService "tn_task_release_wait" T (theTask ∷ []) (λ a b c d. TaskReleaseWait a)
+    ∷ aService "tn_task_irelease_wait" I (theTask ∷ []) (λ a b c d. TaskIreleaseWait a)
+    ∷ aService "tn_task_change_priority" T (theTask ∷ thePriority ∷ []) (λ a b c d. TaskChangePriority a b)
     ∷ []
 
 -- time slices and the tick
 unfoldable pub system : List Service
 system =
-    row "tn_sys_tslice_ticks" T (aLevel ∷ aSlice ∷ []) (λ a b c d. SysTsliceTicks a b)
-    ∷ row "tn_tick_int_processing" I [] (λ a b c d. TickIntProcessing)
+    aService "tn_sys_tslice_ticks" T (theLevel ∷ theSlice ∷ []) (λ a b c d. SysTsliceTicks a b)
+    ∷ aService "tn_tick_int_processing" I [] (λ a b c d. TickIntProcessing)
     ∷ []
 
 -- those on semaphores
 unfoldable pub semaphores : List Service
 semaphores =
-    row "tn_sem_create" T (aSemaphore ∷ aStart ∷ aMaximum ∷ []) (λ a b c d. SemCreate a b c)
-    ∷ row "tn_sem_delete" T (aSemaphore ∷ []) (λ a b c d. SemDelete a)
-    ∷ row "tn_sem_signal" T (aSemaphore ∷ []) (λ a b c d. SemSignal a)
-    ∷ row "tn_sem_isignal" I (aSemaphore ∷ []) (λ a b c d. SemIsignal a)
-    ∷ row "tn_sem_acquire" T (aSemaphore ∷ aTimeout ∷ []) (λ a b c d. SemAcquire a b)
-    ∷ row "tn_sem_polling" T (aSemaphore ∷ []) (λ a b c d. SemPolling a)
-    ∷ row "tn_sem_ipolling" I (aSemaphore ∷ []) (λ a b c d. SemIpolling a)
+    aService "tn_sem_create" T (theSemaphore ∷ theStart ∷ theMaximum ∷ []) (λ a b c d. SemCreate a b c)
+    ∷ aService "tn_sem_delete" T (theSemaphore ∷ []) (λ a b c d. SemDelete a)
+    ∷ aService "tn_sem_signal" T (theSemaphore ∷ []) (λ a b c d. SemSignal a)
+    ∷ aService "tn_sem_isignal" I (theSemaphore ∷ []) (λ a b c d. SemIsignal a)
+    ∷ aService "tn_sem_acquire" T (theSemaphore ∷ theTimeout ∷ []) (λ a b c d. SemAcquire a b)
+    ∷ aService "tn_sem_polling" T (theSemaphore ∷ []) (λ a b c d. SemPolling a)
+    ∷ aService "tn_sem_ipolling" I (theSemaphore ∷ []) (λ a b c d. SemIpolling a)
     ∷ []
 
 -- those on event flags
-unfoldable pub events : List Service
-events =
-    row "tn_event_create" T (aFlag ∷ anAttribute ∷ someBits ∷ []) (λ a b c d. Event a (Create b c))
-    ∷ row "tn_event_delete" T (aFlag ∷ []) (λ a b c d. Event a Delete)
-    ∷ row "tn_event_set" T (aFlag ∷ aPattern ∷ []) (λ a b c d. Event a (Set b))
-    ∷ row "tn_event_iset" I (aFlag ∷ aPattern ∷ []) (λ a b c d. Event a (Iset b))
-    ∷ row "tn_event_clear" T (aFlag ∷ aPattern ∷ []) (λ a b c d. Event a (Clear b))
-    ∷ row "tn_event_iclear" I (aFlag ∷ aPattern ∷ []) (λ a b c d. Event a (Iclear b))
-    ∷ row "tn_event_wait" T (aFlag ∷ aPattern ∷ aMode ∷ aTimeout ∷ []) (λ a b c d. Event a (Wait b c d))
-    ∷ row "tn_event_wait_polling" T (aFlag ∷ aPattern ∷ aMode ∷ []) (λ a b c d. Event a (WaitPolling b c))
-    ∷ row "tn_event_iwait" I (aFlag ∷ aPattern ∷ aMode ∷ []) (λ a b c d. Event a (Iwait b c))
+unfoldable pub flags : List Service
+flags =
+    aService "tn_event_create" T (theFlag ∷ theAttributes ∷ theBits ∷ []) (λ a b c d. OnFlag a (Create b c))
+    ∷ aService "tn_event_delete" T (theFlag ∷ []) (λ a b c d. OnFlag a Delete)
+    ∷ aService "tn_event_set" T (theFlag ∷ thePattern ∷ []) (λ a b c d. OnFlag a (Set b))
+    ∷ aService "tn_event_iset" I (theFlag ∷ thePattern ∷ []) (λ a b c d. OnFlag a (Iset b))
+    ∷ aService "tn_event_clear" T (theFlag ∷ thePattern ∷ []) (λ a b c d. OnFlag a (Clear b))
+    ∷ aService "tn_event_iclear" I (theFlag ∷ thePattern ∷ []) (λ a b c d. OnFlag a (Iclear b))
+    ∷ aService "tn_event_wait" T (theFlag ∷ thePattern ∷ theMode ∷ theTimeout ∷ []) (λ a b c d. OnFlag a (Wait b c d))
+    ∷ aService "tn_event_wait_polling" T (theFlag ∷ thePattern ∷ theMode ∷ []) (λ a b c d. OnFlag a (WaitPolling b c))
+    ∷ aService "tn_event_iwait" I (theFlag ∷ thePattern ∷ theMode ∷ []) (λ a b c d. OnFlag a (Iwait b c))
     ∷ []
 
 unfoldable pub services : List Service
-services = tasks ++ (system ++ (semaphores ++ events))
+services = tasks ++ (system ++ (semaphores ++ flags))
 
 abbrev none : Service
-none = row "" I [] (λ a b c d. TickIntProcessing)
+none = aService "" I [] (λ a b c d. TickIntProcessing)
 
 -- by its number, from 1 on; a number that names no service stands for the tick
 unfoldable pub service : ℕ → Service
@@ -94,16 +94,16 @@ service zero = none
 service (suc k) = getD services k none
 
 -- ---- which service a call is of
-abbrev pub eventNumber : Events.Event → ℕ
-eventNumber (Create a b) = 24
-eventNumber Delete = 25
-eventNumber (Set b) = 26
-eventNumber (Iset b) = 27
-eventNumber (Clear b) = 28
-eventNumber (Iclear b) = 29
-eventNumber (Wait p m d) = 30
-eventNumber (WaitPolling p m) = 31
-eventNumber (Iwait p m) = 32
+abbrev pub flagServiceNumber : FlagService → ℕ
+flagServiceNumber (Create a b) = 24
+flagServiceNumber Delete = 25
+flagServiceNumber (Set b) = 26
+flagServiceNumber (Iset b) = 27
+flagServiceNumber (Clear b) = 28
+flagServiceNumber (Iclear b) = 29
+flagServiceNumber (Wait p m d) = 30
+flagServiceNumber (WaitPolling p m) = 31
+flagServiceNumber (Iwait p m) = 32
 
 abbrev pub serviceNumber : Call → ℕ
 serviceNumber (TaskCreate t p o) = 1
@@ -129,7 +129,7 @@ serviceNumber (SemIsignal m) = 20
 serviceNumber (SemAcquire m d) = 21
 serviceNumber (SemPolling m) = 22
 serviceNumber (SemIpolling m) = 23
-serviceNumber (Event f e) = eventNumber e
+serviceNumber (OnFlag f e) = flagServiceNumber e
 
 -- ---- the context test: a call comes from the context that its service belongs to
 abbrev pub same : Context → Context → Bool

@@ -6,31 +6,31 @@ use mathlib.Core.Path.{_≡_, refl}
 use Prim.Native.Nat.{ℕ}
 use denote.Enum.Declared.{tagOf}
 use types.Run.{OneOf, miss}
-use Rattle.model.proofs.Event as event
+use Rattle.model.proofs.FlagService as flagService
 use Rattle.model.specs.declared.Context.{Context}
 use Rattle.model.specs.declared.Context.the-variants.{T, I}
 use Rattle.model.specs.declared.Call.{Call}
-use Rattle.model.specs.declared.Call.the-variants.{Event}
-use Rattle.model.specs.declared.Event as Events
-use Rattle.model.specs.declared.Event.the-variants.{Create, Delete, Set, Iset, Clear, Iclear, Wait, WaitPolling, Iwait}
+use Rattle.model.specs.declared.Call.the-variants.{OnFlag}
+use Rattle.model.specs.declared.FlagService.{FlagService}
+use Rattle.model.specs.declared.FlagService.the-variants.{Create, Delete, Set, Iset, Clear, Iclear, Wait, WaitPolling, Iwait}
 use Rattle.model.specs.Services as Services
 use Rattle.model.specs.Services.{service, services, tasks, system, semaphores, serviceNumber, same, isMine}
 
 -- the tags of the variants that are left over
-abbrev pub restOfEvents : List ℕ
-restOfEvents = 0 ∷ 1 ∷ 2 ∷ 4 ∷ 6 ∷ 7 ∷ []
+abbrev pub restOfFlags : List ℕ
+restOfFlags = 0 ∷ 1 ∷ 2 ∷ 4 ∷ 6 ∷ 7 ∷ []
 
-pub no-event : (e : Events.Event) → OneOf restOfEvents (tagOf event.the-type e) → isMine I (Event 0 e) ≡ false
-unfolding isMine service services tasks system semaphores Services.events
-no-event (Create a b) h = refl
-no-event Delete h = refl
-no-event (Set b) h = refl
-no-event (Iset b) h = absurd (miss restOfEvents 3 tt h)
-no-event (Clear b) h = refl
-no-event (Iclear b) h = absurd (miss restOfEvents 5 tt h)
-no-event (Wait p m d) h = refl
-no-event (WaitPolling p m) h = refl
-no-event (Iwait p m) h = absurd (miss restOfEvents 8 tt h)
+pub no-flag : (e : FlagService) → OneOf restOfFlags (tagOf flagService.the-type e) → isMine I (OnFlag 0 e) ≡ false
+unfolding isMine service services tasks system semaphores Services.flags
+no-flag (Create a b) h = refl
+no-flag Delete h = refl
+no-flag (Set b) h = refl
+no-flag (Iset b) h = absurd (miss restOfFlags 3 tt h)
+no-flag (Clear b) h = refl
+no-flag (Iclear b) h = absurd (miss restOfFlags 5 tt h)
+no-flag (Wait p m d) h = refl
+no-flag (WaitPolling p m) h = refl
+no-flag (Iwait p m) h = absurd (miss restOfFlags 8 tt h)
 
 -- the two contexts exclude each other
 pub not-mine : (a : Call) → isMine T a ≡ not (isMine I a)

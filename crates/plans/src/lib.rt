@@ -1,18 +1,20 @@
-// Every call: which records it looks at, whether the context is its own, and its plan.
-// Each function is a definition of model/specs/Call or Services, for every value; it rests on plans_task, plans_semaphore and plans_event.
+// Every call's plan on the tables: each arm looks at what its service asks for, and at nothing else.
+// It is `plannedFrom` of model/specs/Call, for every value; it rests on plans_task, plans_semaphore and plans_flag.
 ghost use mathlib.Core.Path.{_≡_};
 ghost use Rattle.model.specs.declared.Context.the-variants.{T, I};
-ghost use Rattle.model.specs.Call.{named, subject, plan};
+ghost use Rattle.model.specs.declared.Call.the-variants.{OnFlag};
+ghost use Rattle.model.specs.Row.{firstOf};
+ghost use Rattle.model.specs.State.{task, semaphore};
+ghost use Rattle.model.specs.Service.{signal};
 ghost use Rattle.model.specs.Services.{same, isMine};
+ghost use Rattle.model.specs.Call.{plannedFrom};
+ghost use Rattle.tables.specs.Lent.{before};
 use model::Call;
 use model::Context;
-use model::Event;
-use model::Flag;
+use model::FlagService;
 use model::Plan;
-use model::Semaphore;
-use model::Task;
-use plans_event::event_plan;
-use plans_event::event_subject;
+use plans_flag::flag_plan;
+use plans_flag::flag_subject;
 use plans_semaphore::acquire;
 use plans_semaphore::polling;
 use plans_semaphore::sem_create;
@@ -31,94 +33,11 @@ use plans_task::waits::resume;
 use plans_task::waits::sleep;
 use plans_task::waits::suspend;
 use plans_task::waits::wakeup;
+use stored::record_at;
+use tables::flag_at;
+use tables::semaphore_at;
 
-// The semaphore or flag that a call names, or 0.
-pub fn named(a: Call) -> usize
-    ensures { λ r. ⌜ r ≡ named a ⌝ }
-{
-    match a {
-        Call::TaskCreate { .. } => 0,
-        Call::TaskDelete { .. } => 0,
-        Call::TaskActivate { .. } => 0,
-        Call::TaskIactivate { .. } => 0,
-        Call::TaskExit => 0,
-        Call::TaskTerminate { .. } => 0,
-        Call::TaskSuspend { .. } => 0,
-        Call::TaskResume { .. } => 0,
-        Call::TaskSleep { .. } => 0,
-        Call::TaskWakeup { .. } => 0,
-        Call::TaskIwakeup { .. } => 0,
-        Call::TaskReleaseWait { .. } => 0,
-        Call::TaskIreleaseWait { .. } => 0,
-        Call::TaskChangePriority { .. } => 0,
-        Call::SysTsliceTicks { .. } => 0,
-        Call::TickIntProcessing => 0,
-        Call::SemCreate { semaphore, .. } => semaphore as usize,
-        Call::SemDelete { semaphore } => semaphore as usize,
-        Call::SemSignal { semaphore } => semaphore as usize,
-        Call::SemIsignal { semaphore } => semaphore as usize,
-        Call::SemAcquire { semaphore, .. } => semaphore as usize,
-        Call::SemPolling { semaphore } => semaphore as usize,
-        Call::SemIpolling { semaphore } => semaphore as usize,
-        Call::Event { flag, .. } => flag as usize,
-    }
-}
-
-// The task whose record a call looks at: the one it names, the running one, or the first waiter of the semaphore or flag; or 0.
-pub fn subject(a: Call, run: u8, first: u8, head: u8) -> usize
-    ensures { λ r. ⌜ r ≡ subject a run first head ⌝ }
-{
-    match a {
-        Call::TaskCreate { task, .. } => task as usize,
-        Call::TaskDelete { task } => task as usize,
-        Call::TaskActivate { task } => task as usize,
-        Call::TaskIactivate { task } => task as usize,
-        Call::TaskExit => run as usize,
-        Call::TaskTerminate { task } => task as usize,
-        Call::TaskSuspend { task } => task as usize,
-        Call::TaskResume { task } => task as usize,
-        Call::TaskSleep { .. } => run as usize,
-        Call::TaskWakeup { task } => task as usize,
-        Call::TaskIwakeup { task } => task as usize,
-        Call::TaskReleaseWait { task } => task as usize,
-        Call::TaskIreleaseWait { task } => task as usize,
-        Call::TaskChangePriority { task, .. } => task as usize,
-        Call::SysTsliceTicks { .. } => 0,
-        Call::TickIntProcessing => 0,
-        Call::SemCreate { .. } => 0,
-        Call::SemDelete { .. } => 0,
-        Call::SemSignal { .. } => first as usize,
-        Call::SemIsignal { .. } => first as usize,
-        Call::SemAcquire { .. } => run as usize,
-        Call::SemPolling { .. } => 0,
-        Call::SemIpolling { .. } => 0,
-        Call::Event { service, .. } => event_subject(service, run, head) as usize,
-    }
-}
-
-// A service of flags belongs to interrupts.
-fn is_event_inside(service: Event) -> bool
-    ensures { λ r. ⌜ r ≡ isMine I (Call.Event 0 service) ⌝ }
-{
-    match service {
-        Event::Iset { .. } => true,
-        Event::Iclear { .. } => true,
-        Event::Iwait { .. } => true,
-        _ => false,
-    }
-}
-
-// The context test of a service of flags: it comes from the context that it belongs to.
-fn is_event_mine(c: Context, service: Event) -> bool
-    ensures { λ r. ⌜ r ≡ isMine c (Call.Event 0 service) ⌝ }
-{
-    let inside = is_event_inside(service);
-    match c {
-        Context::T => !inside,
-        Context::I => inside,
-    }
-}
-
+// ---- contexts
 // The running task, or start-up code.
 fn in_t(c: Context) -> bool
     ensures { λ r. ⌜ r ≡ same c T ⌝ }
@@ -139,10 +58,77 @@ pub fn in_i(c: Context) -> bool
     }
 }
 
-// A call's plan, from its context, who runs, the subject's record, and the semaphore and the flag of the number that it names.
-// Each arm knows the context of its service, which the table of services decides.
-pub fn plan(c: Context, a: Call, run: u8, k: Task, x: Semaphore, y: Flag) -> Plan
-    ensures { λ r. ⌜ r ≡ plan (isMine c a) a run k x y ⌝ }
+// A service of flags belongs to interrupts.
+fn is_flag_inside(service: FlagService) -> bool
+    ensures { λ r. ⌜ r ≡ isMine I (OnFlag 0 service) ⌝ }
+{
+    match service {
+        FlagService::Iset { .. } => true,
+        FlagService::Iclear { .. } => true,
+        FlagService::Iwait { .. } => true,
+        _ => false,
+    }
+}
+
+// It comes from the context that it belongs to.
+fn is_flag_mine(c: Context, service: FlagService) -> bool
+    ensures { λ r. ⌜ r ≡ isMine c (OnFlag 0 service) ⌝ }
+{
+    let inside = is_flag_inside(service);
+    match c {
+        Context::T => !inside,
+        Context::I => inside,
+    }
+}
+
+// ---- plans
+// A signal looks at the record of the first waiter.
+fn signal_in(
+    bytes: &[u8; 250],
+    words: &[u32; 75],
+    levels: &[u8; 744],
+    waits: &[u8; 504],
+    numbers: &[u32; 107],
+    mine: bool,
+    m: u32,
+) -> Plan
+    ensures { λ r. ⌜ r ≡ signal mine m (task (before bytes words levels waits numbers) (firstOf (before bytes words levels waits numbers .waits) m)) (semaphore (before bytes words levels waits numbers) m) ⌝ }
+{
+    let x = semaphore_at(waits, numbers, m as usize);
+    let k = record_at(bytes, words, x.first as usize);
+    signal(mine, m, k, x)
+}
+
+fn flag_plan_in(
+    bytes: &[u8; 250],
+    words: &[u32; 75],
+    levels: &[u8; 744],
+    waits: &[u8; 504],
+    numbers: &[u32; 107],
+    run: u8,
+    c: Context,
+    flag: u32,
+    service: FlagService,
+) -> Plan
+    ensures { λ r. ⌜ r ≡ plannedFrom run (before bytes words levels waits numbers) c (OnFlag flag service) ⌝ }
+{
+    let y = flag_at(waits, numbers, flag as usize);
+    let k = record_at(bytes, words, flag_subject(service, run, y.first) as usize);
+    flag_plan(is_flag_mine(c, service), flag, service, run, k, y)
+}
+
+// The context that each arm asks for is the one that its service belongs to in the table of services.
+pub fn plan_in(
+    bytes: &[u8; 250],
+    words: &[u32; 75],
+    levels: &[u8; 744],
+    waits: &[u8; 504],
+    numbers: &[u32; 107],
+    run: u8,
+    c: Context,
+    a: Call,
+) -> Plan
+    ensures { λ r. ⌜ r ≡ plannedFrom run (before bytes words levels waits numbers) c a ⌝ }
 {
     let mine_t = in_t(c);
     let mine_i = in_i(c);
@@ -151,35 +137,121 @@ pub fn plan(c: Context, a: Call, run: u8, k: Task, x: Semaphore, y: Flag) -> Pla
             task,
             priority,
             option,
-        } => create(mine_t, task, priority, option, k),
-        Call::TaskDelete { task } => delete(mine_t, task, k),
-        Call::TaskActivate { task } => activate(mine_t, task, k),
-        Call::TaskIactivate { task } => activate(mine_i, task, k),
+        } => create(
+            mine_t,
+            task,
+            priority,
+            option,
+            record_at(bytes, words, task as usize),
+        ),
+        Call::TaskDelete { task } => delete(mine_t, task, record_at(bytes, words, task as usize)),
+        Call::TaskActivate { task } => activate(
+            mine_t,
+            task,
+            record_at(bytes, words, task as usize),
+        ),
+        Call::TaskIactivate { task } => activate(
+            mine_i,
+            task,
+            record_at(bytes, words, task as usize),
+        ),
         Call::TaskExit => exit(mine_t, run),
-        Call::TaskTerminate { task } => terminate(mine_t, task, run, k),
-        Call::TaskSuspend { task } => suspend(mine_t, task, k),
-        Call::TaskResume { task } => resume(mine_t, task, k),
-        Call::TaskSleep { timeout } => sleep(mine_t, timeout, run, k),
-        Call::TaskWakeup { task } => wakeup(mine_t, task, k),
-        Call::TaskIwakeup { task } => wakeup(mine_i, task, k),
-        Call::TaskReleaseWait { task } => release_wait(mine_t, task, k),
-        Call::TaskIreleaseWait { task } => release_wait(mine_i, task, k),
-        Call::TaskChangePriority { task, priority } => change_priority(mine_t, task, priority, k),
+        Call::TaskTerminate { task } => terminate(
+            mine_t,
+            task,
+            run,
+            record_at(bytes, words, task as usize),
+        ),
+        Call::TaskSuspend { task } => suspend(mine_t, task, record_at(bytes, words, task as usize)),
+        Call::TaskResume { task } => resume(mine_t, task, record_at(bytes, words, task as usize)),
+        Call::TaskSleep { timeout } => sleep(
+            mine_t,
+            timeout,
+            run,
+            record_at(bytes, words, run as usize),
+        ),
+        Call::TaskWakeup { task } => wakeup(mine_t, task, record_at(bytes, words, task as usize)),
+        Call::TaskIwakeup { task } => wakeup(mine_i, task, record_at(bytes, words, task as usize)),
+        Call::TaskReleaseWait { task } => release_wait(
+            mine_t,
+            task,
+            record_at(bytes, words, task as usize),
+        ),
+        Call::TaskIreleaseWait { task } => release_wait(
+            mine_i,
+            task,
+            record_at(bytes, words, task as usize),
+        ),
+        Call::TaskChangePriority { task, priority } => change_priority(
+            mine_t,
+            task,
+            priority,
+            record_at(bytes, words, task as usize),
+        ),
         Call::SysTsliceTicks { level, slice } => tslice_ticks(mine_t, level, slice),
         Call::TickIntProcessing => tick(mine_i),
         Call::SemCreate {
             semaphore,
             start,
             maximum,
-        } => sem_create(mine_t, semaphore, start, maximum, x),
-        Call::SemDelete { semaphore } => sem_delete(mine_t, semaphore, x),
-        Call::SemSignal { semaphore } => signal(mine_t, semaphore, k, x),
-        Call::SemIsignal { semaphore } => signal(mine_i, semaphore, k, x),
-        Call::SemAcquire { semaphore, timeout } => acquire(mine_t, semaphore, timeout, run, k, x),
-        Call::SemPolling { semaphore } => polling(mine_t, semaphore, x),
-        Call::SemIpolling { semaphore } => polling(mine_i, semaphore, x),
-        Call::Event { flag, service } => {
-            event_plan(is_event_mine(c, service), flag, service, run, k, y)
-        },
+        } => sem_create(
+            mine_t,
+            semaphore,
+            start,
+            maximum,
+            semaphore_at(waits, numbers, semaphore as usize),
+        ),
+        Call::SemDelete { semaphore } => sem_delete(
+            mine_t,
+            semaphore,
+            semaphore_at(waits, numbers, semaphore as usize),
+        ),
+        Call::SemSignal { semaphore } => signal_in(
+            bytes,
+            words,
+            levels,
+            waits,
+            numbers,
+            mine_t,
+            semaphore,
+        ),
+        Call::SemIsignal { semaphore } => signal_in(
+            bytes,
+            words,
+            levels,
+            waits,
+            numbers,
+            mine_i,
+            semaphore,
+        ),
+        Call::SemAcquire { semaphore, timeout } => acquire(
+            mine_t,
+            semaphore,
+            timeout,
+            run,
+            record_at(bytes, words, run as usize),
+            semaphore_at(waits, numbers, semaphore as usize),
+        ),
+        Call::SemPolling { semaphore } => polling(
+            mine_t,
+            semaphore,
+            semaphore_at(waits, numbers, semaphore as usize),
+        ),
+        Call::SemIpolling { semaphore } => polling(
+            mine_i,
+            semaphore,
+            semaphore_at(waits, numbers, semaphore as usize),
+        ),
+        Call::OnFlag { flag, service } => flag_plan_in(
+            bytes,
+            words,
+            levels,
+            waits,
+            numbers,
+            run,
+            c,
+            flag,
+            service,
+        ),
     }
 }

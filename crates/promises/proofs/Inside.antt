@@ -11,7 +11,7 @@ use Rattle.tables.proofs as tables
 use Rattle.checks.proofs as checks
 use Rattle.plans_task.proofs as plans_task
 use Rattle.plans_semaphore.proofs as plans_semaphore
-use Rattle.plans_event.proofs as plans_event
+use Rattle.plans_flag.proofs as plans_flag
 use Rattle.plans.proofs as plans
 use Rattle.crossing.proofs as crossing
 use Rattle.sound.proofs as sound
@@ -147,15 +147,15 @@ of-plans_semaphore =
     of plans_semaphore.polling.signature (λ M. plans_semaphore.polling.clauses) (λ M. plans_semaphore.polling.Met.met) (λ w κs a g h o p. plain w result) ∷
     []
 
-pub of-plans_event : List Promise
-of-plans_event =
-    of plans_event.event_subject.signature (λ M. plans_event.event_subject.clauses) (λ M. plans_event.event_subject.Met.met) (λ w κs a g h o p. plain w result) ∷
-    of plans_event.event_plan.signature (λ M. plans_event.event_plan.clauses) (λ M. plans_event.event_plan.Met.met) (λ w κs a g h o p. plain w result) ∷
+pub of-plans_flag : List Promise
+of-plans_flag =
+    of plans_flag.flag_subject.signature (λ M. plans_flag.flag_subject.clauses) (λ M. plans_flag.flag_subject.Met.met) (λ w κs a g h o p. plain w result) ∷
+    of plans_flag.flag_plan.signature (λ M. plans_flag.flag_plan.clauses) (λ M. plans_flag.flag_plan.Met.met) (λ w κs a g h o p. plain w result) ∷
     []
 
 pub of-plans : List Promise
 of-plans =
-    of plans.named.signature (λ M. plans.named.clauses) (λ M. plans.named.Met.met) (λ w κs a g h o p. plain w result) ∷
+    of plans.object_of.signature (λ M. plans.object_of.clauses) (λ M. plans.object_of.Met.met) (λ w κs a g h o p. plain w result) ∷
     of plans.subject.signature (λ M. plans.subject.clauses) (λ M. plans.subject.Met.met) (λ w κs a g h o p. plain w result) ∷
     of plans.in_i.signature (λ M. plans.in_i.clauses) (λ M. plans.in_i.Met.met) (λ w κs a g h o p. plain w result) ∷
     of plans.plan.signature (λ M. plans.plan.clauses) (λ M. plans.plan.Met.met) (λ w κs a g h o p. plain w result) ∷

@@ -1,5 +1,5 @@
 -- What becomes of a file, from what the header, the lines and the buffer's length say. The kernel's step and its checked call give
--- the same rows, since every state that a list reaches from the fresh one is sound. It rests on Playing, kept and tested.
+-- the same rows, since every state that a list reaches from the fresh one is sound. It rests on Playing, soundness and tested.
 use Prim.Native.Nat.{ℕ, _+_, _<_, _≤_}
 use mathlib.Core.Path.{_≡_, refl, ap, sym, _∙_}
 use mathlib.Core.Bool.{Bool, true, false, cond}
@@ -13,7 +13,7 @@ use Rattle.model.specs.State.{fresh}
 use Rattle.model.specs.Test.{isSound}
 use Rattle.model.specs.Sound.{Sound}
 use Rattle.model.specs.Call as Calls
-use Rattle.kept.proofs.Kept.{sound-stays-sound, fresh-is-sound}
+use Rattle.soundness.proofs.Soundness.{sound-stays-sound, fresh-is-sound}
 use Rattle.tested.proofs.Same.{sound-exactly}
 use Rattle.lines.specs.declared.line.Header.{Header}
 use Rattle.lines.specs.declared.line.Header.the-variants.{Ends, NoHeader}

@@ -5,7 +5,7 @@ use Prim.Native.Nat.{ℕ, _+_, _≤_}
 use native.Mathlib.Omega.{arith}
 use lib.ListN.{length, length-append}
 use lib.Seq.{sets, length-sets}
-use Rattle.text.specs.Bytes.{put, after}
+use Rattle.text.specs.Bytes.{put, placeAfter}
 use Rattle.text.proofs.Stores.{sets-append, put-room, after-room}
 
 -- the text t stands from `at` on, and i is the place after it
@@ -13,7 +13,7 @@ pub record Placed (b : List ℕ) (at : ℕ) (t : List ℕ) (i : ℕ) (b′ : Lis
   pub place : i ≡ at + length t
   pub stores : b′ ≡ sets b at t
 
-pub placed : (b : List ℕ) (at : ℕ) (t : List ℕ) (i : ℕ) (b′ : List ℕ) → at + length t ≤ length b → i ≡ after b at t → b′ ≡ put b at t → Placed b at t i b′
+pub placed : (b : List ℕ) (at : ℕ) (t : List ℕ) (i : ℕ) (b′ : List ℕ) → at + length t ≤ length b → i ≡ placeAfter b at t → b′ ≡ put b at t → Placed b at t i b′
 placed b at t i b′ h p q = record { place = p ∙ after-room b at t h; stores = q ∙ put-room b at t h }
 
 -- the room for what follows
@@ -28,7 +28,7 @@ followed b at xs ys i b′ j b″ p q = record {
 }
 
 -- the same, with the room for what follows seen to
-pub then : (b : List ℕ) (at : ℕ) (xs ys : List ℕ) (i : ℕ) (b′ : List ℕ) (j : ℕ) (b″ : List ℕ) → at + length (xs ++ ys) ≤ length b → i ≡ after b at xs → b′ ≡ put b at xs
+pub then : (b : List ℕ) (at : ℕ) (xs ys : List ℕ) (i : ℕ) (b′ : List ℕ) (j : ℕ) (b″ : List ℕ) → at + length (xs ++ ys) ≤ length b → i ≡ placeAfter b at xs → b′ ≡ put b at xs
     → (i + length ys ≤ length b′ → Placed b′ i ys j b″) → Placed b at (xs ++ ys) j b″
 then b at xs ys i b′ j b″ h p q f =
     let a : Placed b at xs i b′ = placed b at xs i b′ (omega (arith, length-append xs ys)) p q in

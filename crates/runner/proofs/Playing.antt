@@ -24,7 +24,7 @@ use Rattle.walk.specs.Script.{scriptIn}
 use Rattle.walk.specs.Rows.{Row, rowText, rowsText}
 use Rattle.walk.proofs.Playing.{faulted, played, reaches}
 use Rattle.walk.proofs.Walking as walking
-use Rattle.walk.proofs.Walking.{Walk, rowOf}
+use Rattle.walk.proofs.Walking.{Walk, answerRow}
 use Rattle.runner.specs.declared.Played.{Played}
 use Rattle.runner.specs.Kept.{slotOf, keptText, codesOf, runsOf, Plays as Keeps}
 use Rattle.runner.proofs.Scripts.{row-kept}
@@ -99,7 +99,7 @@ module _ (wide : Bool) (file : List ℕ) (h : ℕ) (cs rs : List ℕ) (at n size
         some = rw g at (line-in wide (drop at file))
 
     module _ (r : Stepped) (s′ : State) (i : answerOf r s′ ≡ stepFrom run s x c) where
-      onward : (at < at + m) × Walk wide file h (l .rows ++ (rowOf r ∷ [])) (at + m) (n + 1) (r .running) s′
+      onward : (at < at + m) × Walk wide file h (l .rows ++ (answerRow r ∷ [])) (at + m) (n + 1) (r .running) s′
       onward = walking.on wide file h (l .rows) at n run s (l .walk) more (Plays r (at + m)) s′ (played run at s (lineOf wide (drop at file)) x c m r s′ g i) r (at + m) refl
 
       pub turns : (v k : ℕ) → v ≡ slotOf (r .code) → (k ≡ length (keptText (n + 1) v (r .running))) × (k ≤ 20)
@@ -107,12 +107,12 @@ module _ (wide : Bool) (file : List ℕ) (h : ℕ) (cs rs : List ℕ) (at n size
       turns v k f w =
           let e : 1 + length (l .rows) ≡ n + 1 = omega (arith, l .walk .many) in
           record {
-            rows = l .rows ++ (rowOf r ∷ []);
+            rows = l .rows ++ (answerRow r ∷ []);
             walk = onward .1;
             short = omega (arith, l .short, w .1);
             codes# = length-set cs n v ∙ l .codes#;
             runs# = length-set rs n (r .running) ∙ l .runs#;
-            codes = kept-on cs n v _ _ (omega (arith, l .codes#, room)) (l .codes) (rw f (map-snoc (λ (y : Row). slotOf (y .code)) (l .rows) (rowOf r)));
-            runs = kept-on rs n (r .running) _ _ (omega (arith, l .runs#, room)) (l .runs) (map-snoc (λ (y : Row). y .running) (l .rows) (rowOf r));
-            total = omega (arith, l .total, w .0, length-snoc 1 (l .rows) (rowOf r), ap (λ (j : ℕ). length (rowText j (rowOf r))) e, ap length (row-kept (n + 1) (rowOf r)), ap (λ (u : ℕ). length (keptText (n + 1) u (r .running))) f);
+            codes = kept-on cs n v _ _ (omega (arith, l .codes#, room)) (l .codes) (rw f (map-snoc (λ (y : Row). slotOf (y .code)) (l .rows) (answerRow r)));
+            runs = kept-on rs n (r .running) _ _ (omega (arith, l .runs#, room)) (l .runs) (map-snoc (λ (y : Row). y .running) (l .rows) (answerRow r));
+            total = omega (arith, l .total, w .0, length-snoc 1 (l .rows) (answerRow r), ap (λ (j : ℕ). length (rowText j (answerRow r))) e, ap length (row-kept (n + 1) (answerRow r)), ap (λ (u : ℕ). length (keptText (n + 1) u (r .running))) f);
           }

@@ -24,7 +24,7 @@ use Rattle.runner.specs.declared.Ran.{Ran}
 use Rattle.runner.specs.declared.Ran.the-variants.{Wrote, TooLong, Unreadable, Short}
 use Rattle.walk.specs.Script.{Script, done, fault, next, lineThen, scriptIn, headerThen, scriptOf, faultOf}
 use Rattle.walk.specs.Rows.{textOf}
-use Rattle.runner.specs.Outcome.{judged, ranOf, numberOf, Small}
+use Rattle.runner.specs.Outcome.{judged, ranOf, signedOf, Small}
 
 neg-suc : (k : ℕ) → pos 0 -ℤ pos (suc k) ≡ negsuc k
 neg-suc k = simp (lt-ltb 0 (suc k) (omega arith)) (ap negsuc (omega arith))
@@ -41,14 +41,14 @@ neg-fits l h = rw (neg-at l h) (sfits-of (omega arith))
 pub neg-back : (l : ℕ) → l ≤ 65538 → toZ w64 (ofZ w64 (pos 0 -ℤ toZ w64 (l + 10))) ≡ negsuc (l + 9)
 neg-back l h = toZ-ofZ (neg-fits l h) ∙ neg-at l h
 
-number-fits : (r : Ran) → Small r → SFits w64 (numberOf r)
+number-fits : (r : Ran) → Small r → SFits w64 (signedOf r)
 number-fits (Wrote n) h = sfits-of h
 number-fits TooLong h = sfits-of (omega arith)
 number-fits Short h = sfits-of (omega arith)
 number-fits (Unreadable l) h = sfits-of (omega arith)
 
-pub back : (z : ℤ) (r : Ran) → Small r → z ≡ numberOf r → toZ w64 (ofZ w64 z) ≡ numberOf r
-back z r h e = rw e (toZ-ofZ {w = w64} {z = numberOf r} (number-fits r h))
+pub back : (z : ℤ) (r : Ran) → Small r → z ≡ signedOf r → toZ w64 (ofZ w64 z) ≡ signedOf r
+back z r h e = rw e (toZ-ofZ {w = w64} {z = signedOf r} (number-fits r h))
 
 -- ---- the numbers are small
 fault-most : (wide : Bool) (s : List ℕ) (k l : ℕ) → faultOf (scriptIn wide k s l) ≤ l + length s

@@ -6,7 +6,7 @@ use native.Mathlib.Numerals.{add-one}
 use native.Mathlib.Omega.{arith}
 use lib.ListN.{length, getD, take, drop, length-append, drop-of-length-le}
 use lib.Seq.{sets, length-sets, drop-cons, getD-take, length-take-le}
-use Rattle.text.specs.Bytes.{bytes, put, after}
+use Rattle.text.specs.Bytes.{bytes, put, placeAfter}
 use Rattle.text.proofs.Stores.{sets-append, put-room, after-room}
 use Rattle.runner.specs.Kept.{keptText, keptRows}
 
@@ -43,7 +43,7 @@ unfolding keptRows
 over n codes runs b out i w p h g = rw (drop-of-length-le (take n codes) {i = i} (omega (arith, length-take-le n codes p))) at g
 
 -- the header first
-pub headed : (b b₁ w rows : List ℕ) (out : ℕ) → 16 + length rows ≤ length b → out ≡ after b 0 (bytes "n,code,running\r\n") → b₁ ≡ put b 0 (bytes "n,code,running\r\n") → w ≡ sets b₁ out rows
+pub headed : (b b₁ w rows : List ℕ) (out : ℕ) → 16 + length rows ≤ length b → out ≡ placeAfter b 0 (bytes "n,code,running\r\n") → b₁ ≡ put b 0 (bytes "n,code,running\r\n") → w ≡ sets b₁ out rows
     → w ≡ sets b 0 (bytes "n,code,running\r\n" ++ rows)
 headed b b₁ w rows out h e f g =
     let t = bytes "n,code,running\r\n" in
@@ -51,7 +51,7 @@ headed b b₁ w rows out h e f g =
     let s : b₁ ≡ sets b 0 t = f ∙ put-room b 0 t (omega arith) in
     g ∙ rw (o, s) (sym (sets-append b 0 t rows))
 
-pub header-room : (b b₁ rows : List ℕ) (out : ℕ) → 16 + length rows ≤ length b → out ≡ after b 0 (bytes "n,code,running\r\n") → b₁ ≡ put b 0 (bytes "n,code,running\r\n") → out + length rows ≤ length b₁
+pub header-room : (b b₁ rows : List ℕ) (out : ℕ) → 16 + length rows ≤ length b → out ≡ placeAfter b 0 (bytes "n,code,running\r\n") → b₁ ≡ put b 0 (bytes "n,code,running\r\n") → out + length rows ≤ length b₁
 header-room b b₁ rows out h e f =
     let t = bytes "n,code,running\r\n" in
     omega (arith, e ∙ after-room b 0 t (omega arith), ap length (f ∙ put-room b 0 t (omega arith)), length-sets b 0 t)

@@ -23,11 +23,11 @@ unfoldable pub ranOf : List ℕ → ℕ → Ran
 ranOf file room = cond (ltb 65536 (length file)) TooLong (judged (scriptOf file) room)
 
 -- bytes written; -1, file too long; -2, buffer too short; -(10 + line), first unreadable line
-abbrev pub numberOf : Ran → ℤ
-numberOf (Wrote n) = pos n
-numberOf TooLong = negsuc 0
-numberOf Short = negsuc 1
-numberOf (Unreadable l) = negsuc (l + 9)
+abbrev pub signedOf : Ran → ℤ
+signedOf (Wrote n) = pos n
+signedOf TooLong = negsuc 0
+signedOf Short = negsuc 1
+signedOf (Unreadable l) = negsuc (l + 9)
 
 -- the buffer is written only where the whole answer fits; bytes beyond those written stay
 abbrev pub bufferOf : Ran → List ℕ → List ℕ → List ℕ

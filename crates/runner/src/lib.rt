@@ -8,7 +8,7 @@ ghost use lib.Seq.{sets};
 ghost use Rattle.text.specs.Bytes.{bytes};
 ghost use Rattle.walk.specs.Script.{scriptIn};
 ghost use Rattle.runner.specs.Kept.{slotOf, slotText, keptText, Plays, keptRows};
-ghost use Rattle.runner.specs.Outcome.{ranOf, numberOf, bufferOf, Small};
+ghost use Rattle.runner.specs.Outcome.{ranOf, signedOf, bufferOf, Small};
 use lines::line::Header;
 use lines::line::Line;
 use lines::line::read_header;
@@ -198,7 +198,7 @@ pub fn run(file: &[u8], answer: &mut [u8]) -> Ran
 // The editor's number of each case.
 fn number(r: Ran) -> i64
     requires { ⌜ Small r ⌝ }
-    ensures { λ z. ⌜ z ≡ numberOf r ⌝ }
+    ensures { λ z. ⌜ z ≡ signedOf r ⌝ }
 {
     match r {
         Ran::Wrote(n) => n as i64,
@@ -209,7 +209,7 @@ fn number(r: Ran) -> i64
 }
 
 pub fn run_list(file: &[u8], answer: &mut [u8]) -> i64
-    ensures { λ r. ⌜ (r ≡ numberOf (ranOf (now (file .entry)) (length (now (answer .entry))))) × (now (answer .exit) ≡ bufferOf (ranOf (now (file .entry)) (length (now (answer .entry)))) (now (file .entry)) (now (answer .entry))) ⌝ }
+    ensures { λ r. ⌜ (r ≡ signedOf (ranOf (now (file .entry)) (length (now (answer .entry))))) × (now (answer .exit) ≡ bufferOf (ranOf (now (file .entry)) (length (now (answer .entry)))) (now (file .entry)) (now (answer .entry))) ⌝ }
 {
     let r = run(file, answer);
     number(r)

@@ -10,7 +10,7 @@ use lib.ListN.{length, getD}
 use borrow.Author.Tests.{eq-eqb, ne-eqb, eqb-true}
 use Rattle.text.specs.Bytes.{begins}
 use Rattle.text.proofs.Begins.{begins-at}
-use Rattle.model.specs.Services.{Service, tasks, system, semaphores, events, services}
+use Rattle.model.specs.Services.{Service, tasks, system, semaphores, flags, services}
 use Rattle.services.specs.declared.names.Name.{Name}
 use Rattle.services.specs.declared.names.Name.the-variants.{Known, Unknown}
 use Rattle.services.specs.Names.{label, nameIn, nameOf}
@@ -70,14 +70,14 @@ taskKey s = getD s 8 0 + getD s 11 0
 abbrev pub semaphoreKey : List ℕ → ℕ
 semaphoreKey s = getD s 8 0
 
-abbrev pub eventKey : List ℕ → ℕ
-eventKey s = getD s 10 0 + getD s 12 0
+abbrev pub flagKey : List ℕ → ℕ
+flagKey s = getD s 10 0 + getD s 12 0
 
 early-bytes : (i j : ℕ) → i < 13 → j < 13 → Early (λ s. getD s i 0 + getD s j 0)
 early-bytes i j h k s t e g = rw (early-byte i h s t e g, early-byte j k s t e g)
 
 pub at-family : {r : Name} (s : List ℕ) {a m : ℕ} → a ≡ getD s 4 0 → a ≡ m → r ≡ keyed familyKey services 1 m s → r ≡ nameOf s
-unfolding nameOf services tasks system semaphores events long label
+unfolding nameOf services tasks system semaphores flags long label
 at-family s p e q = at-key familyKey (early-byte 4 (omega arith)) services tt 1 s (sym e ∙ p) q
 
 pub at-task : {r : Name} (s : List ℕ) {a b m : ℕ} → a ≡ getD s 8 0 → b ≡ getD s 11 0 → a + b ≡ m → r ≡ keyed taskKey tasks 1 m s → r ≡ nameIn tasks 1 s
@@ -88,9 +88,9 @@ pub at-semaphore : {r : Name} (s : List ℕ) {a m : ℕ} → a ≡ getD s 8 0 �
 unfolding semaphores long label
 at-semaphore s p e q = at-key semaphoreKey (early-byte 8 (omega arith)) semaphores tt 17 s (sym e ∙ p) q
 
-pub at-event : {r : Name} (s : List ℕ) {a b m : ℕ} → a ≡ getD s 10 0 → b ≡ getD s 12 0 → a + b ≡ m → r ≡ keyed eventKey events 24 m s → r ≡ nameIn events 24 s
-unfolding events long label
-at-event s p o e q = at-key eventKey (early-bytes 10 12 (omega arith) (omega arith)) events tt 24 s (sym e ∙ (cc)) q
+pub at-flag : {r : Name} (s : List ℕ) {a b m : ℕ} → a ≡ getD s 10 0 → b ≡ getD s 12 0 → a + b ≡ m → r ≡ keyed flagKey flags 24 m s → r ≡ nameIn flags 24 s
+unfolding flags long label
+at-flag s p o e q = at-key flagKey (early-bytes 10 12 (omega arith) (omega arith)) flags tt 24 s (sym e ∙ (cc)) q
 
 -- every row's key is one of those
 covered : (List ℕ → ℕ) → List ℕ → List Service → Bool
@@ -113,11 +113,11 @@ taskKeys = 196 ∷ 201 ∷ 202 ∷ 221 ∷ 217 ∷ 225 ∷ 227 ∷ 231 ∷ 216 �
 abbrev pub semaphoreKeys : List ℕ
 semaphoreKeys = 114 ∷ 101 ∷ 105 ∷ 115 ∷ 99 ∷ 111 ∷ 112 ∷ []
 
-abbrev pub eventKeys : List ℕ
-eventKeys = 211 ∷ 202 ∷ 145 ∷ 231 ∷ 205 ∷ 200 ∷ 213 ∷ 224 ∷ []
+abbrev pub flagKeys : List ℕ
+flagKeys = 211 ∷ 202 ∷ 145 ∷ 231 ∷ 205 ∷ 200 ∷ 213 ∷ 224 ∷ []
 
 pub no-family : (s : List ℕ) (h : ℕ) → h ≡ getD s 4 0 → Rest familyKeys h Unit → Unknown ≡ nameOf s
-unfolding services tasks system semaphores events label has covered
+unfolding services tasks system semaphores flags label has covered
 no-family s h p r = at-family s p refl (no-key familyKey familyKeys services tt 1 h s r)
 
 pub no-task : (s : List ℕ) (a b : ℕ) → a ≡ getD s 8 0 → b ≡ getD s 11 0 → Rest taskKeys (a + b) Unit → Unknown ≡ nameIn tasks 1 s
@@ -128,6 +128,6 @@ pub no-semaphore : (s : List ℕ) (h : ℕ) → h ≡ getD s 8 0 → Rest semaph
 unfolding semaphores label has covered
 no-semaphore s h p r = at-semaphore s p refl (no-key semaphoreKey semaphoreKeys semaphores tt 17 h s r)
 
-pub no-event : (s : List ℕ) (a b : ℕ) → a ≡ getD s 10 0 → b ≡ getD s 12 0 → Rest eventKeys (a + b) Unit → Unknown ≡ nameIn events 24 s
-unfolding events label has covered
-no-event s a b p o r = at-event s p o refl (no-key eventKey eventKeys events tt 24 (a + b) s r)
+pub no-flag : (s : List ℕ) (a b : ℕ) → a ≡ getD s 10 0 → b ≡ getD s 12 0 → Rest flagKeys (a + b) Unit → Unknown ≡ nameIn flags 24 s
+unfolding flags label has covered
+no-flag s a b p o r = at-flag s p o refl (no-key flagKey flagKeys flags tt 24 (a + b) s r)

@@ -3,7 +3,7 @@
 ghost use mathlib.Core.Path.{_≡_};
 ghost use Rattle.services.specs.Calls.{asked};
 use model::Call;
-use model::Event;
+use model::FlagService;
 
 // The call that numbers ask for, or nothing where they name no service.
 pub enum Asked {
@@ -53,51 +53,51 @@ pub fn call_of(number: u32, a: u32, b: u32, c: u32, d: u32) -> Asked
         }),
         22 => Asked::Named(Call::SemPolling { semaphore: a }),
         23 => Asked::Named(Call::SemIpolling { semaphore: a }),
-        24 => Asked::Named(Call::Event {
+        24 => Asked::Named(Call::OnFlag {
             flag: a,
-            service: Event::Create {
+            service: FlagService::Create {
                 attributes: b,
                 bits: c,
             },
         }),
-        25 => Asked::Named(Call::Event {
+        25 => Asked::Named(Call::OnFlag {
             flag: a,
-            service: Event::Delete,
+            service: FlagService::Delete,
         }),
-        26 => Asked::Named(Call::Event {
+        26 => Asked::Named(Call::OnFlag {
             flag: a,
-            service: Event::Set { bits: b },
+            service: FlagService::Set { bits: b },
         }),
-        27 => Asked::Named(Call::Event {
+        27 => Asked::Named(Call::OnFlag {
             flag: a,
-            service: Event::Iset { bits: b },
+            service: FlagService::Iset { bits: b },
         }),
-        28 => Asked::Named(Call::Event {
+        28 => Asked::Named(Call::OnFlag {
             flag: a,
-            service: Event::Clear { bits: b },
+            service: FlagService::Clear { bits: b },
         }),
-        29 => Asked::Named(Call::Event {
+        29 => Asked::Named(Call::OnFlag {
             flag: a,
-            service: Event::Iclear { bits: b },
+            service: FlagService::Iclear { bits: b },
         }),
-        30 => Asked::Named(Call::Event {
+        30 => Asked::Named(Call::OnFlag {
             flag: a,
-            service: Event::Wait {
+            service: FlagService::Wait {
                 pattern: b,
                 mode: c,
                 timeout: d,
             },
         }),
-        31 => Asked::Named(Call::Event {
+        31 => Asked::Named(Call::OnFlag {
             flag: a,
-            service: Event::WaitPolling {
+            service: FlagService::WaitPolling {
                 pattern: b,
                 mode: c,
             },
         }),
-        32 => Asked::Named(Call::Event {
+        32 => Asked::Named(Call::OnFlag {
             flag: a,
-            service: Event::Iwait {
+            service: FlagService::Iwait {
                 pattern: b,
                 mode: c,
             },

@@ -1,7 +1,7 @@
 // The service whose name, with the comma after it, begins a part of a file.
 // Each function is a definition of specs/Names, for every value; it rests on text.
 ghost use mathlib.Core.Path.{_≡_};
-ghost use Rattle.model.specs.Services.{tasks, semaphores, events};
+ghost use Rattle.model.specs.Services.{tasks, semaphores, flags};
 ghost use Rattle.services.specs.Names.{labelled, nameIn, nameOf};
 use text::words::begins;
 use text::words::byte_at;
@@ -66,8 +66,8 @@ fn semaphore_name(s: &[u8]) -> Name
     }
 }
 
-fn event_name(s: &[u8]) -> Name
-    ensures { λ r. ⌜ r ≡ nameIn events 24 (now (s .entry)) ⌝ }
+fn flag_name(s: &[u8]) -> Name
+    ensures { λ r. ⌜ r ≡ nameIn flags 24 (now (s .entry)) ⌝ }
 {
     let key = byte_at(s, 10) as u32 + byte_at(s, 12) as u32;
     match key {
@@ -101,7 +101,7 @@ pub fn read_name(s: &[u8]) -> Name
         b'y' => labelled(s, b"tn_sys_tslice_ticks,", 15, 2),
         b'i' => labelled(s, b"tn_tick_int_processing,", 16, 0),
         b'e' => semaphore_name(s),
-        b'v' => event_name(s),
+        b'v' => flag_name(s),
         _ => Name::Unknown,
     }
 }

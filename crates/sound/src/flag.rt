@@ -2,14 +2,14 @@
 // Each function is a definition of model/specs/Test, for every value; it rests on model, and on records for when bits meet a wait.
 ghost use mathlib.Core.Path.{_≡_};
 ghost use Rattle.model.specs.Row.{secondOf};
-ghost use Rattle.model.specs.Flag.{areKept};
+ghost use Rattle.model.specs.Flag.{isFlagAttributes};
 ghost use Rattle.model.specs.Test.{isFlagSound, isUnmet};
 ghost use Rattle.queues.specs.Queues.{queuesOf};
 use model::Wait;
 use records::FLAG;
 
-fn are_kept(attributes: u32) -> bool
-    ensures { λ r. ⌜ r ≡ areKept attributes ⌝ }
+fn is_flag_attributes(attributes: u32) -> bool
+    ensures { λ r. ⌜ r ≡ isFlagAttributes attributes ⌝ }
 {
     (attributes == 0) | ((attributes == 1) | ((attributes == 2) | (attributes == 4)))
 }
@@ -17,9 +17,9 @@ fn are_kept(attributes: u32) -> bool
 pub(crate) fn flag_sound(attributes: u32, bits: u32, first: u8, second: u8) -> bool
     ensures { λ r. ⌜ r ≡ isFlagSound attributes bits first second ⌝ }
 {
-    let kept = are_kept(attributes);
+    let valid = is_flag_attributes(attributes);
     let single = (attributes == 2) | (attributes == 4);
-    kept & (((attributes != 0) | ((bits == 0) & (first == 0))) & (!single | (second == 0)))
+    valid & (((attributes != 0) | ((bits == 0) & (first == 0))) & (!single | (second == 0)))
 }
 
 pub(crate) fn is_unmet(w: Wait, bits: u32) -> bool

@@ -1,8 +1,13 @@
-// A state as five tables that can be lent: it goes into them and comes out of them.
+// A state as five tables that can be lent: it goes into them and comes out of them, and what a call looks at is read off them.
 // Each contract names the state that the tables stand for (specs/Lent); it rests on stored, queues and numbers.
 ghost use mathlib.Core.Path.{_≡_};
+ghost use Rattle.model.specs.Flag.{flagRow};
 ghost use Rattle.tables.specs.Lent.{before, after};
+ghost use Rattle.tables.specs.Seen.{semaphoreIn, flagIn};
+use model::Flag;
+use model::Semaphore;
 use model::State;
+use queues::lent::first_waiter;
 
 pub fn spread(
     bytes: &mut [u8; 250],
@@ -42,5 +47,38 @@ pub fn gather(
         levels: ls,
         waits: ws,
         numbers: ns,
+    }
+}
+
+// ---- what a call looks at
+// The semaphore that a call names.
+pub fn semaphore_at(waits: &[u8; 504], numbers: &[u32; 107], m: usize) -> Semaphore
+    ensures { λ r. ⌜ r ≡ semaphoreIn (now (waits .entry)) (now (numbers .entry)) m ⌝ }
+{
+    Semaphore {
+        count: numbers::count_at(numbers, m),
+        maximum: numbers::maximum_at(numbers, m),
+        first: first_waiter(waits, m),
+    }
+}
+
+// The row of a flag's waiters; a number that names no flag has none.
+fn flag_row(f: usize) -> usize
+    ensures { λ r. ⌜ r ≡ flagRow f ⌝ }
+{
+    if 8 < f {
+        return 0;
+    }
+    records::flag_row(f as u8) as usize
+}
+
+// The flag that a call names.
+pub fn flag_at(waits: &[u8; 504], numbers: &[u32; 107], f: usize) -> Flag
+    ensures { λ r. ⌜ r ≡ flagIn (now (waits .entry)) (now (numbers .entry)) f ⌝ }
+{
+    Flag {
+        attributes: numbers::attributes_at(numbers, f),
+        bits: numbers::bits_at(numbers, f),
+        first: first_waiter(waits, flag_row(f)),
     }
 }

@@ -7,7 +7,7 @@ use mathlib.Core.Logic.{_⊎_, inl, inr, ⊎-elim}
 use Prim.Native.Nat.{ℕ, zero, suc, _+_, _≤_, _<_}
 use native.Mathlib.Nat.{eq-or-lt-of-le}
 use native.Mathlib.Omega.{arith}
-use lib.Dec.{T, eqb}
+use lib.Dec.{T as So, eqb}
 use lib.ListN.{length}
 use borrow.Author.Tests.{eq-eqb, ne-eqb}
 use Rattle.model.specs.declared.Queue.{Queue}
@@ -23,7 +23,7 @@ use Rattle.laws.proofs.Says.{Says, says-as, says-eq, says-not, says-and, says-o
 -- ---- one row
 -- whoever stands there passes, and places past the end hold 0
 abbrev Only : (ℕ → Type 0) → List ℕ → Type 0
-Only P q = T (padded q) × ((t : ℕ) → 1 ≤ t → 1 ≤ occ t q → P t)
+Only P q = So (padded q) × ((t : ℕ) → 1 ≤ t → 1 ≤ occ t q → P t)
 
 module _ (f : ℕ → Bool) (P : ℕ → Type 0) (h : (t : ℕ) → Says (f t) (P t)) where
   says-only : (q : List ℕ) → Says (listsOnly f q) (Only P q)
@@ -133,10 +133,10 @@ module _ (ls : List Queue) (n : ℕ) (key : ℕ → ℕ) where
           (same? (key (suc t)) 0)
 
   -- where the keys are rows of the table, and neither task 0 nor one past the tables has a key
-  pub lists-of-test : Queues n ls → ((t : ℕ) → 25 ≤ t → key t ≡ 0) → T (listsExactly ls n key) → Lists ls n key
+  pub lists-of-test : Queues n ls → ((t : ℕ) → 25 ≤ t → key t ≡ 0) → So (listsExactly ls n key) → Lists ls n key
   lists-of-test sized past h = parts-lists sized past (says-parts .yields h)
 
-  pub test-of-lists : ((t : ℕ) → key t < n) → key 0 ≡ 0 → Lists ls n key → T (listsExactly ls n key)
+  pub test-of-lists : ((t : ℕ) → key t < n) → key 0 ≡ 0 → Lists ls n key → So (listsExactly ls n key)
   test-of-lists most origin h = says-parts .tests (lists-parts most origin h)
 
   -- ---- the first and the second of a row

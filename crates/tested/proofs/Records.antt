@@ -5,7 +5,7 @@ use mathlib.Core.Bool.{Bool, true, false, cond, _&&_}
 use mathlib.Core.Logic.{_⊎_, inl, inr, ⊎-elim}
 use Prim.Native.Nat.{ℕ, _≤_}
 use native.Mathlib.Omega.{arith}
-use lib.Dec.{T, eqb}
+use lib.Dec.{T as So, eqb}
 use Rattle.model.specs.declared.Wait.{Wait}
 use Rattle.model.specs.declared.Task.{Task}
 use Rattle.model.specs.Task.{noWait, noTask, nothing, aSleep, aSemaphore, aFlag, isRunnable, levelOf}
@@ -30,7 +30,7 @@ unwaiting k o m r p ek eo em er ep = cc
 says-no-wait : (w : Wait) → Says (isNoWait w) (w ≡ noWait)
 says-no-wait w = record {
   yields = λ t. let p = zeros .yields t in unwaiting (w .kind) (w .object) (w .mode) (w .remaining) (w .pattern) (p .0) (p .1 .0) (p .1 .1 .0) (p .1 .1 .1 .0) (p .1 .1 .1 .1);
-  tests = λ e. subst (λ (v : Wait). T (isNoWait v)) (sym e) tt;
+  tests = λ e. subst (λ (v : Wait). So (isNoWait v)) (sym e) tt;
 }
   where
     zeros : Says (isNoWait w) ((w .kind ≡ 0) × ((w .object ≡ 0) × ((w .mode ≡ 0) × ((w .remaining ≡ 0) × (w .pattern ≡ 0)))))
@@ -41,7 +41,7 @@ says-blank x = record {
   yields = λ t. let p = zeros .yields t in let q = p .1 .1 .1 .1 in
       blank (x .base) (x .priority) (x .active) (x .suspended) (x .wakeups) (x .activations) (x .code) (x .wait) (x .handed)
       (p .0) (p .1 .0) (p .1 .1 .0) (p .1 .1 .1 .0) (q .0) (q .1 .0) (q .1 .1 .0) (q .1 .1 .1 .0) (q .1 .1 .1 .1);
-  tests = λ e. subst (λ (y : Task). T (isBlank y)) (sym e) tt;
+  tests = λ e. subst (λ (y : Task). So (isBlank y)) (sym e) tt;
 }
   where
     zeros : Says (isBlank x) ((x .base ≡ 0) × ((x .priority ≡ 0) × ((x .active ≡ 0) × ((x .suspended ≡ 0) × ((x .wakeups ≡ 0) × ((x .activations ≡ 0) × ((x .code ≡ 0) × ((x .wait ≡ noWait) × (x .handed ≡ 0)))))))))
@@ -120,7 +120,7 @@ says-ask w = says-as
 abbrev Made : Task → Type 0
 Made x =
     ((1 ≤ x .base) × (x .base ≤ 30)) × (((1 ≤ x .priority) × (x .priority ≤ 30)) × ((x .active ≤ 1) × ((x .suspended ≤ 1) × ((x .wakeups ≤ 1)
-    × ((x .activations ≤ 1) × (T (isWaitCode (x .code)) × ((x .active ≡ 0 → Resting x) × (WaitOf x × SoundAsk (x .wait)))))))))
+    × ((x .activations ≤ 1) × (So (isWaitCode (x .code)) × ((x .active ≡ 0 → Resting x) × (WaitOf x × SoundAsk (x .wait)))))))))
 
 made-sound : (x : Task) → Made x → SoundTask x
 made-sound x p =

@@ -5,11 +5,11 @@ use mathlib.Core.Bool.{Bool, true, false}
 use mathlib.Core.Logic.{inr, ⊎-elim, _↔_}
 use Prim.Native.Nat.{ℕ, _+_, _≤_, _<_}
 use native.Mathlib.Omega.{arith}
-use lib.Dec.{T}
+use lib.Dec.{T as So}
 use lib.ListN.{length, List·getD-eq-default}
 use Rattle.model.specs.declared.State.{State}
 use Rattle.model.specs.Row.{firstOf, secondOf}
-use Rattle.model.specs.Flag.{areKept, isSingle, isMet, flagRow}
+use Rattle.model.specs.Flag.{isFlagAttributes, isSingle, isMet, flagRow}
 use Rattle.model.specs.Task.{noTask, levelOf, rowOf}
 use Rattle.model.specs.State.{task, slice, charge, count, maximum, attribute, bitsOf}
 use Rattle.model.specs.Test.{listsExactly, isTaskSound, isRateSound, isCountSound, isFlagSound, isUnmet, isSized, isOrigin, isSound}
@@ -44,8 +44,8 @@ record Parts (s : State) : Type 0 where
   counts : (m : ℕ) → m < 13 → Counted (count s m) (maximum s m) (firstOf (s .waits) m)
   flags : (f : ℕ) → f < 9 → Flagged (attribute s f) (bitsOf s f) (firstOf (s .waits) (flagRow f)) (secondOf (s .waits) (flagRow f))
   unmet : (t : ℕ) → t < 25 → Unmet (task s t .wait) (bitsOf s (task s t .wait .object))
-  levels : T (listsExactly (s .levels) 31 (λ t. levelOf (task s t)))
-  waits : T (listsExactly (s .waits) 21 (λ t. rowOf (task s t)))
+  levels : So (listsExactly (s .levels) 31 (λ t. levelOf (task s t)))
+  waits : So (listsExactly (s .waits) 21 (λ t. rowOf (task s t)))
 
 module _ (s : State) where
   says-sized : Says (isSized s) (Sized s)
@@ -131,11 +131,11 @@ module _ (s : State) where
     sound-waits : Lists (s .waits) 21 (λ t. rowOf (task s t))
     sound-waits = lists-of-test (s .waits) 21 (λ t. rowOf (task s t)) (p .sized .waits#) (λ t h. ap rowOf (no-task t h) ∙ row-none) (p .waits)
 
-    each-flag : (f : ℕ) → T (areKept (attribute s f)) × (attribute s f ≡ 0 → bitsOf s f ≡ 0)
-    unfolding areKept
-    each-flag = everywhere (λ f. T (areKept (attribute s f)) × (attribute s f ≡ 0 → bitsOf s f ≡ 0)) 9 past (λ f h. (p .flags f h .0, λ e. p .flags f h .1 .0 e .0))
+    each-flag : (f : ℕ) → So (isFlagAttributes (attribute s f)) × (attribute s f ≡ 0 → bitsOf s f ≡ 0)
+    unfolding isFlagAttributes
+    each-flag = everywhere (λ f. So (isFlagAttributes (attribute s f)) × (attribute s f ≡ 0 → bitsOf s f ≡ 0)) 9 past (λ f h. (p .flags f h .0, λ e. p .flags f h .1 .0 e .0))
       where
-        past : (f : ℕ) → 9 ≤ f → T (areKept (attribute s f)) × (attribute s f ≡ 0 → bitsOf s f ≡ 0)
+        past : (f : ℕ) → 9 ≤ f → So (isFlagAttributes (attribute s f)) × (attribute s f ≡ 0 → bitsOf s f ≡ 0)
         past f h =
             let e = List·getD-eq-default (s .numbers .attributes) 0 {n = f} (omega (arith, p .sized .attributes#)) in
             let g = List·getD-eq-default (s .numbers .bits) 0 {n = f} (omega (arith, p .sized .bits#)) in
@@ -163,7 +163,7 @@ module _ (s : State) where
         let made : attribute s f ≡ 0 → ⊥ = λ z. waits-first (f + 12) t (omega arith) (omega arith) e (rw (flag-row f low top) at (p .flags f (omega arith) .1 .0 z .1)) in
         (omega arith, rw (w .1) at (p .unmet t (listed-task t (omega arith) .1) (w .0)))
 
-    single : (f t u : ℕ) → 1 ≤ f → f ≤ 8 → T (isSingle (attribute s f)) → rowOf (task s t) ≡ f + 12 → rowOf (task s u) ≡ f + 12 → t ≡ u
+    single : (f t u : ℕ) → 1 ≤ f → f ≤ 8 → So (isSingle (attribute s f)) → rowOf (task s t) ≡ f + 12 → rowOf (task s u) ≡ f + 12 → t ≡ u
     single f t u low top one d e =
         second-alone (s .waits) 21 (λ t. rowOf (task s t)) sound-waits (f + 12) (omega arith)
         (rw (flag-row f low top) at (p .flags f (omega arith) .1 .1 one))
@@ -264,13 +264,13 @@ module _ (s : State) where
   says-sound = says-as parts-sound sound-parts says-parts
 
 -- ---- the test and the statement
-pub sound-of-test : (s : State) → T (isSound s) → Sound s
+pub sound-of-test : (s : State) → So (isSound s) → Sound s
 sound-of-test s = says-sound s .yields
 
-pub test-of-sound : (s : State) → Sound s → T (isSound s)
+pub test-of-sound : (s : State) → Sound s → So (isSound s)
 test-of-sound s = says-sound s .tests
 
-is-true : (b : Bool) → T b → b ≡ true
+is-true : (b : Bool) → So b → b ≡ true
 is-true true t = refl
 is-true false t = absurd t
 

@@ -10,7 +10,7 @@ use lib.ListN.{length, getD, drop, drop-of-length-le}
 use borrow.Author.Tests.{le-leb, lt-leb}
 use Rattle.text.specs.declared.number.Number.{Number}
 use Rattle.text.specs.declared.number.Number.the-variants.{Digits, NoNumber}
-use Rattle.text.specs.Number.{isDigit, digits, valueAfter, ended, numberOf}
+use Rattle.text.specs.Number.{isDigit, digits, valueAfter, numeral, numberOf}
 use Rattle.text.proofs.Places.{next}
 
 pub digit-in : (b : ℕ) → 48 ≤ b → b ≤ 57 → isDigit b ≡ true
@@ -48,18 +48,18 @@ module _ (s : List ℕ) (v i : ℕ) (l : Left s v i) where
         count = omega (arith, ap length m, l .count);
       }
 
-  left-none : v < 4294967296 → digits (drop i s) ≡ [] → ended (getD s 0 0) v i ≡ numberOf s
+  left-none : v < 4294967296 → digits (drop i s) ≡ [] → numeral (getD s 0 0) v i ≡ numberOf s
   unfolding numberOf valueAfter
   left-none h e =
       let p : v ≡ valueAfter 0 (digits s) = rw e at (l .value) in
       let q : i ≡ length (digits s) = omega (arith, ap length e, l .count) in
       rw (← p, ← q, le-leb v 4294967295 (omega arith))
 
-  pub left-stop : v < 4294967296 → i < length s → isDigit (getD s i 0) ≡ false → ended (getD s 0 0) v i ≡ numberOf s
+  pub left-stop : v < 4294967296 → i < length s → isDigit (getD s i 0) ≡ false → numeral (getD s 0 0) v i ≡ numberOf s
   unfolding digits
   left-stop h g e = left-none h (rw (next s i g, e))
 
-  pub left-end : v < 4294967296 → length s ≤ i → ended (getD s 0 0) v i ≡ numberOf s
+  pub left-end : v < 4294967296 → length s ≤ i → numeral (getD s 0 0) v i ≡ numberOf s
   unfolding digits
   left-end h g = left-none h (rw (drop-of-length-le s g))
 
@@ -68,7 +68,7 @@ module _ (s : List ℕ) (v i : ℕ) (l : Left s v i) where
   left-over h = rw (lt-leb (valueAfter 0 (digits s)) 4294967295 (omega (arith, value-grows v (digits (drop i s)), l .value)))
 
 pub number-empty : (s : List ℕ) → length s ≡ 0 → NoNumber ≡ numberOf s
-unfolding numberOf ended digits valueAfter
+unfolding numberOf numeral digits valueAfter
 number-empty [] h = refl
 number-empty (b ∷ s) h = absurd (omega arith)
 
@@ -93,12 +93,12 @@ digits-in [] = omega arith
 digits-in (b ∷ s) = cond-by (λ (ds : List ℕ). length ds ≤ suc (length s)) (isDigit b) (b ∷ digits s) [] (λ e. omega (arith, digits-in s)) (omega arith)
 
 pub number-in : (s : List ℕ) → NumberIn (numberOf s) (length s)
-unfolding numberOf ended
+unfolding numberOf numeral
 number-in s =
     let n = length (digits s) in
     let v = valueAfter 0 (digits s) in
     let P : Number → Type 0 = λ (t : Number). NumberIn t (length s) in
-    cond-by P (leb v 4294967295) (ended (getD s 0 0) v n) NoNumber
+    cond-by P (leb v 4294967295) (numeral (getD s 0 0) v n) NoNumber
     (λ _. cond-by P (eqb n 0) NoNumber _ (λ _. tt)
     (cond-by P (eqb n 1) (Digits v n) _ (λ _. digits-in s)
     (cond-by P (eqb (getD s 0 0) 48) NoNumber (Digits v n) (λ _. tt) (digits-in s))))

@@ -9,7 +9,7 @@ use lib.Dec.{ltb}
 use lib.ListN.{length, getD, length-append, List·getD-append}
 use borrow.Author.Tests.{ltb-true, ltb-false, le-leb, ne-eqb}
 use Rattle.text.specs.declared.number.Number.the-variants.{Digits}
-use Rattle.text.specs.Number.{isDigit, digits, valueAfter, ended, numberOf}
+use Rattle.text.specs.Number.{isDigit, digits, valueAfter, numeral, numberOf}
 use Rattle.text.specs.Decimal.{decimal}
 use Rattle.text.proofs.Digits.{decimal-one, decimal-step}
 use Rattle.text.proofs.Reading.{digit-in}
@@ -68,7 +68,7 @@ none (b ∷ rest) e = rw e
 
 -- the number is read back, and the reader stops at what follows, if that is no digit
 pub read-back : (n : ℕ) → n < 4294967296 → (rest : List ℕ) → isDigit (getD rest 0 0) ≡ false → numberOf (decimal n ++ rest) ≡ Digits n (length (decimal n))
-unfolding numberOf ended
+unfolding numberOf numeral
 read-back n h rest e = go (ltb n 10) refl
   where
     p : Printed n

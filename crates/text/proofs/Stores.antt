@@ -11,7 +11,7 @@ use lib.Dec.{leb}
 use lib.ListN.{length, set, getD, drop, drop-of-length-le, length-append}
 use lib.Seq.{sets, set-comm, drop-cons, length-sets}
 use borrow.Author.Tests.{leb-true, leb-false, le-leb, lt-leb, not-true, not-false}
-use Rattle.text.specs.Bytes.{put, after}
+use Rattle.text.specs.Bytes.{put, placeAfter}
 
 pub sets-append : (l : List ℕ) (i : ℕ) (xs ys : List ℕ) → sets l i (xs ++ ys) ≡ sets (sets l i xs) (i + length xs) ys
 sets-append l i [] ys = rw (add-zero i)
@@ -48,8 +48,8 @@ module _ (buf : List ℕ) (at : ℕ) (t : List ℕ) where
   unfolding put
   put-room h = rw (le-leb (at + length t) (length buf) h)
 
-  pub after-room : at + length t ≤ length buf → after buf at t ≡ at + length t
-  unfolding after
+  pub after-room : at + length t ≤ length buf → placeAfter buf at t ≡ at + length t
+  unfolding placeAfter
   after-room h = rw (le-leb (at + length t) (length buf) h)
 
   -- one without room leaves the buffer and the place
@@ -57,8 +57,8 @@ module _ (buf : List ℕ) (at : ℕ) (t : List ℕ) where
   unfolding put
   put-none {r} e h = rw (← e, not-true r h)
 
-  pub after-none : {r : Bool} → r ≡ leb (at + length t) (length buf) → not r ≡ true → at ≡ after buf at t
-  unfolding after
+  pub after-none : {r : Bool} → r ≡ leb (at + length t) (length buf) → not r ≡ true → at ≡ placeAfter buf at t
+  unfolding placeAfter
   after-none {r} e h = rw (← e, not-true r h)
 
   -- the buffer's length stays
@@ -81,8 +81,8 @@ module _ (buf : List ℕ) (at : ℕ) (xs ys : List ℕ) (h : at + length (xs ++ 
   second : at + length xs + length ys ≤ length (sets buf at xs)
   second = omega (arith, both, length-sets buf at xs)
 
-  pub put-append : put (put buf at xs) (after buf at xs) ys ≡ put buf at (xs ++ ys)
+  pub put-append : put (put buf at xs) (placeAfter buf at xs) ys ≡ put buf at (xs ++ ys)
   put-append = rw (after-room buf at xs first, put-room buf at xs first, put-room (sets buf at xs) (at + length xs) ys second, put-room buf at (xs ++ ys) h) (sym (sets-append buf at xs ys))
 
-  pub after-append : after (put buf at xs) (after buf at xs) ys ≡ after buf at (xs ++ ys)
+  pub after-append : placeAfter (put buf at xs) (placeAfter buf at xs) ys ≡ placeAfter buf at (xs ++ ys)
   after-append = rw (after-room buf at xs first, put-room buf at xs first, after-room (sets buf at xs) (at + length xs) ys second, after-room buf at (xs ++ ys) h) (omega (arith, length-append xs ys))

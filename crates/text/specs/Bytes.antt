@@ -25,5 +25,5 @@ unfoldable pub put : List ℕ → ℕ → List ℕ → List ℕ
 put buf at t = cond (leb (at + length t) (length buf)) (sets buf at t) buf
 
 -- the place after t, or `at` again
-unfoldable pub after : List ℕ → ℕ → List ℕ → ℕ
-after buf at t = cond (leb (at + length t) (length buf)) (at + length t) at
+unfoldable pub placeAfter : List ℕ → ℕ → List ℕ → ℕ
+placeAfter buf at t = cond (leb (at + length t) (length buf)) (at + length t) at

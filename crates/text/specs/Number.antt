@@ -23,11 +23,11 @@ valueAfter v [] = v
 valueAfter v (d ∷ ds) = valueAfter (v * 10 + (d - 48)) ds
 
 -- n digits of the value v, the first of them b: at least one, and no needless leading zero
-unfoldable pub ended : ℕ → ℕ → ℕ → Number
-ended b v n = cond (eqb n 0) NoNumber (cond (eqb n 1) (Digits v n) (cond (eqb b 48) NoNumber (Digits v n)))
+unfoldable pub numeral : ℕ → ℕ → ℕ → Number
+numeral b v n = cond (eqb n 0) NoNumber (cond (eqb n 1) (Digits v n) (cond (eqb b 48) NoNumber (Digits v n)))
 
 -- the number that begins s, at most 4,294,967,295, with the count of its digits
 unfoldable pub numberOf : List ℕ → Number
 numberOf s =
     let v = valueAfter 0 (digits s) in
-    cond (leb v 4294967295) (ended (getD s 0 0) v (length (digits s))) NoNumber
+    cond (leb v 4294967295) (numeral (getD s 0 0) v (length (digits s))) NoNumber

@@ -1,7 +1,7 @@
 // A decimal number at the start of a part of a file.
 // Each function is a definition of specs/Number, for every value.
 ghost use mathlib.Core.Path.{_≡_};
-ghost use Rattle.text.specs.Number.{ended, numberOf};
+ghost use Rattle.text.specs.Number.{numeral, numberOf};
 
 // A number with the count of its digits, or nothing that is a number.
 pub enum Number {
@@ -10,8 +10,8 @@ pub enum Number {
 }
 
 // The number that n digits say, the first of them being the byte `first`.
-fn ended(first: u8, value: u32, n: usize) -> Number
-    ensures { λ r. ⌜ r ≡ ended first value n ⌝ }
+fn numeral(first: u8, value: u32, n: usize) -> Number
+    ensures { λ r. ⌜ r ≡ numeral first value n ⌝ }
 {
     if n == 0 {
         return Number::NoNumber;
@@ -38,10 +38,10 @@ pub fn read_number(s: &[u8]) -> Number
     while i < s.len() {
         let b = s[i];
         if b < 48 {
-            return ended(first, value, i);
+            return numeral(first, value, i);
         }
         if 57 < b {
-            return ended(first, value, i);
+            return numeral(first, value, i);
         }
         let more = (value as u64) * 10 + (b - 48) as u64;
         if 4294967295 < more {
@@ -50,5 +50,5 @@ pub fn read_number(s: &[u8]) -> Number
         value = more as u32;
         i = i + 1;
     }
-    ended(first, value, i)
+    numeral(first, value, i)
 }

@@ -4,7 +4,7 @@ ghost use mathlib.Core.Path.{_≡_};
 ghost use Prim.Native.Nat.{_+_};
 ghost use lib.ListN.{getD, length};
 ghost use lib.Dec.{leb};
-ghost use Rattle.text.specs.Bytes.{begins, put, after};
+ghost use Rattle.text.specs.Bytes.{begins, put, placeAfter};
 
 // The byte at a place; 0 past the end.
 pub fn byte_at(s: &[u8], i: usize) -> u8
@@ -45,7 +45,7 @@ pub(crate) fn has_room(places: usize, at: usize, n: usize) -> bool
 
 // The bytes of t from the place `at` on, and the place after them; without room nothing is written and the place stays.
 pub fn put_text(buf: &mut [u8], at: usize, t: &[u8]) -> usize
-    ensures { λ r. ⌜ (r ≡ after (now (buf .entry)) at (now (t .entry))) × (now (buf .exit) ≡ put (now (buf .entry)) at (now (t .entry))) ⌝ }
+    ensures { λ r. ⌜ (r ≡ placeAfter (now (buf .entry)) at (now (t .entry))) × (now (buf .exit) ≡ put (now (buf .entry)) at (now (t .entry))) ⌝ }
 {
     if !has_room(buf.len(), at, t.len()) {
         return at;

@@ -6,7 +6,7 @@ use mathlib.Core.List.{List, [], _∷_}
 use mathlib.Core.Logic.{_⊎_, inl, inr}
 use Prim.Native.Nat.{ℕ, _+_, _-_, _≤_, _%_, _^_}
 use native.Mathlib.Omega.{arith}
-use lib.Dec.{T, eqb}
+use lib.Dec.{T as So, eqb}
 use lib.IntN.{ℤ, pos, negsuc}
 use lib.ListN.{getD, set}
 use lib.Seq.{getD-set-same, getD-set-other}
@@ -28,9 +28,9 @@ use Rattle.model.specs.Effect.{stopped, toldAll, deleted, toldFlag, charged, ti
 use Rattle.model.specs.Call.{step, call}
 use Rattle.model.specs.Sound.{Sound}
 use Rattle.laws.proofs.Number.{same?}
-use Rattle.kept.proofs.Fresh.{reads}
+use Rattle.soundness.proofs.Fresh.{reads}
 use Rattle.ways.proofs.Tests.{none-of}
-use Rattle.kept.proofs.Kept.{fresh-is-sound, sound-stays-sound}
+use Rattle.soundness.proofs.Soundness.{fresh-is-sound, sound-stays-sound}
 use Rattle.tested.proofs.Same.{sound-exactly}
 use Rattle.ways.specs.Kind.{Kind}
 use Rattle.ways.specs.Entry as Entries
@@ -41,7 +41,7 @@ use Rattle.ways.proofs.Done.{Made, Takes, atOnce, byPoll, Done, Way, refuses, a
 use Rattle.ways.proofs.Done.{Done as Ways}
 use Rattle.ways.proofs.Ways.{way}
 use Rattle.turns.proofs.Still.{tasks-charged}
-use Rattle.kept.proofs.Moved.{numbers-moved, numbers-stopped, numbers-told, numbers-lapsed}
+use Rattle.soundness.proofs.Moved.{numbers-moved, numbers-stopped, numbers-told, numbers-lapsed}
 use Rattle.turns.proofs.Handed.{one-is-served, nobody-is-served}
 
 -- what the theorem keeps from call to call, of a semaphore with count c and maximum v: its account is even, and none is kept of one
@@ -50,29 +50,29 @@ record Account (c v : ℕ) (t : Tally) : Type 0 where
   even : Balanced t c
   none : v ≡ 0 → t ≡ noTally
 
-abbrev Kept : State → ℕ → Tally → Type 0
-Kept s m t = Account (count s m) (maximum s m) t
+abbrev AccountIn : State → ℕ → Tally → Type 0
+AccountIn s m t = Account (count s m) (maximum s m) t
 
 -- ---- what is entered
 -- a refusal is not answered with 0
-refused-not : (z : ℤ) → T (isNegative z) → isZero z ≡ false
+refused-not : (z : ℤ) → So (isNegative z) → isZero z ≡ false
 refused-not (pos n) h = absurd h
 refused-not (negsuc n) h = refl
 
 -- ---- one call
-module _ (s : State) (k : Sound s) (m : ℕ) (t : Tally) (a : Kept s m t) where
+module _ (s : State) (k : Sound s) (m : ℕ) (t : Tally) (a : AccountIn s m t) where
   -- where the numbers stay, what is kept stays
-  stays : (z : State) → z .numbers .counts ≡ s .numbers .counts → z .numbers .maxima ≡ s .numbers .maxima → {u : Tally} → Kept s m u → Kept z m u
+  stays : (z : State) → z .numbers .counts ≡ s .numbers .counts → z .numbers .maxima ≡ s .numbers .maxima → {u : Tally} → AccountIn s m u → AccountIn z m u
   stays z c v b = rw (c, v) b
 
-  numbers : (z : State) → z .numbers ≡ s .numbers → {u : Tally} → Kept s m u → Kept z m u
+  numbers : (z : State) → z .numbers ≡ s .numbers → {u : Tally} → AccountIn s m u → AccountIn z m u
   numbers z e b = rw e b
 
-  moving : (u : ℕ) (x : Task) → Kept (moved u x s) m t
+  moving : (u : ℕ) (x : Task) → AccountIn (moved u x s) m t
   moving u x = numbers (moved u x s) (numbers-moved s u x) a
 
   -- semaphore n gets count c and maximum v, and if it is m, a tally that fits them
-  counting : (z : State) → z .numbers .counts ≡ s .numbers .counts → z .numbers .maxima ≡ s .numbers .maxima → (n c v : ℕ) (u : Tally) → n ≤ 12 → (n ≡ m → Account c v u) → Kept (counted n c v z) m (cond (eqb n m) u t)
+  counting : (z : State) → z .numbers .counts ≡ s .numbers .counts → z .numbers .maxima ≡ s .numbers .maxima → (n c v : ℕ) (u : Tally) → n ≤ 12 → (n ≡ m → Account c v u) → AccountIn (counted n c v z) m (cond (eqb n m) u t)
   unfolding counted
   counting z e f n c v u top fits = rw (e, f) (go (same? n m))
     where
@@ -88,7 +88,7 @@ module _ (s : State) (k : Sound s) (m : ℕ) (t : Tally) (a : Kept s m t) where
   abbrev handsOver : ℕ → State
   handsOver n = moved (firstOf (s .waits) n) (ended (task s (firstOf (s .waits) n)) served 0) s
 
-  serving : (n : ℕ) → Made s n → 1 ≤ firstOf (s .waits) n → Kept (handsOver n) m (entered m (Entries.release n) (waitsEnded s (handsOver n) m 24) t)
+  serving : (n : ℕ) → Made s n → 1 ≤ firstOf (s .waits) n → AccountIn (handsOver n) m (entered m (Entries.release n) (waitsEnded s (handsOver n) m 24) t)
   serving n made some = go (same? n m)
     where
       kept : handsOver n .numbers ≡ s .numbers
@@ -97,13 +97,13 @@ module _ (s : State) (k : Sound s) (m : ℕ) (t : Tally) (a : Kept s m t) where
       u : Tally
       u = withRelease t (waitsEnded s (handsOver n) m 24)
 
-      go : (n ≡ m) ⊎ (n ≡ m → ⊥) → Kept (handsOver n) m (cond (eqb n m) u t)
+      go : (n ≡ m) ⊎ (n ≡ m → ⊥) → AccountIn (handsOver n) m (cond (eqb n m) u t)
       go (inl y) =
           let h : waitsEnded s (handsOver n) m 24 ≡ 1 = rw (← y) (one-is-served s k n (made .low) (made .top) some) in
           rw (eq-eqb n m y) (numbers (handsOver n) kept (rw (← ap (maximum s) y) (evened n made (count s m) u (omega (arith, a .even, h)))))
       go (inr apart) = rw (ne-eqb n m apart) (numbers (handsOver n) kept a)
 
-  ticking : Kept (ticked s) m t
+  ticking : AccountIn (ticked s) m t
   unfolding ticked
   ticking = rw (numbers-lapsed 24 1 z) (stays z (c .2) (c .3) a)
     where
@@ -113,7 +113,7 @@ module _ (s : State) (k : Sound s) (m : ℕ) (t : Tally) (a : Kept s m t) where
       c : (z .tasks ≡ s .tasks) × (z .waits ≡ s .waits) × (z .numbers .counts ≡ s .numbers .counts) × (z .numbers .maxima ≡ s .numbers .maxima)
       c = tasks-charged (withTime ((time s + 1) % 2 ^ 32) s) (running s)
 
-  deleting : (n : ℕ) → n ≤ 12 → Kept (deleted n s) m (cond (eqb n m) noTally t)
+  deleting : (n : ℕ) → n ≤ 12 → AccountIn (deleted n s) m (cond (eqb n m) noTally t)
   unfolding deleted
   deleting n top =
       let b = numbers-told Deleted (waiters s n) s in
@@ -121,14 +121,14 @@ module _ (s : State) (k : Sound s) (m : ℕ) (t : Tally) (a : Kept s m t) where
 
   -- n has a resource less, and u is t with one more taken
   took : (n : ℕ) → Made s n → 1 ≤ count s n → (u : Tally) → u .start + u .released ≡ t .start + t .released
-      → u .atOnce + u .polled + u .handed ≡ t .atOnce + t .polled + t .handed + 1 → Kept (counted n (count s n - 1) (maximum s n) s) m (cond (eqb n m) u t)
+      → u .atOnce + u .polled + u .handed ≡ t .atOnce + t .polled + t .handed + 1 → AccountIn (counted n (count s n - 1) (maximum s n) s) m (cond (eqb n m) u t)
   took n made left u same more = counting s refl refl n (count s n - 1) (maximum s n) u (made .top) (λ y. evened n made (count s n - 1) u (omega (arith, a .even, ap (count s) y)))
 
-  taking : {i : Entry} (n : ℕ) → Made s n → 1 ≤ count s n → Takes n i → (h : ℕ) → Kept (counted n (count s n - 1) (maximum s n) s) m (entered m i h t)
+  taking : {i : Entry} (n : ℕ) → Made s n → 1 ≤ count s n → Takes n i → (h : ℕ) → AccountIn (counted n (count s n - 1) (maximum s n) s) m (entered m i h t)
   taking n made left atOnce h = took n made left (withAtOnce t) refl (omega arith)
   taking n made left byPoll h = took n made left (withPolled t) refl (omega arith)
 
-  raising : (n : ℕ) → Made s n → firstOf (s .waits) n ≡ 0 → Kept (counted n (count s n + 1) (maximum s n) s) m (entered m (Entries.release n) (waitsEnded s (counted n (count s n + 1) (maximum s n) s) m 24) t)
+  raising : (n : ℕ) → Made s n → firstOf (s .waits) n ≡ 0 → AccountIn (counted n (count s n + 1) (maximum s n) s) m (entered m (Entries.release n) (waitsEnded s (counted n (count s n + 1) (maximum s n) s) m 24) t)
   raising n made free = counting s refl refl n (count s n + 1) (maximum s n) (withRelease t (waitsEnded s z m 24)) (made .top) (λ y.
       let h : waitsEnded s z m 24 ≡ 0 = rw (← y) (nobody-is-served s k n (made .low) (made .top) z free) in
       evened n made (count s n + 1) (withRelease t (waitsEnded s z m 24)) (omega (arith, a .even, ap (count s) y, h)))
@@ -136,7 +136,7 @@ module _ (s : State) (k : Sound s) (m : ℕ) (t : Tally) (a : Kept s m t) where
       z : State
       z = counted n (count s n + 1) (maximum s n) s
 
-  after-done : {j : Kind} {i : Entry} {c : Code} {x : Effect} → Done s j i c x → Kept (carried s x) m (cond (isZero (number c)) (entered m i (waitsEnded s (carried s x) m 24) t) t)
+  after-done : {j : Kind} {i : Entry} {c : Code} {x : Effect} → Done s j i c x → AccountIn (carried s x) m (cond (isZero (number c)) (entered m i (waitsEnded s (carried s x) m 24) t) t)
   unfolding carried ticked sliced flagged toldFlag
   after-done Ways.ticks = ticking
   after-done (Ways.exits runs) = numbers (stopped (running s) s) (numbers-stopped s (running s)) a
@@ -154,19 +154,19 @@ module _ (s : State) (k : Sound s) (m : ℕ) (t : Tally) (a : Kept s m t) where
   after-done (Ways.flags f b c r) = stays (flagged f b c s) refl refl a
   after-done (Ways.tells f w b c made r) = let z = numbers-told w (waiters s (flagRow f)) s in stays (flagged f b c (toldAll w (waiters s (flagRow f)) s)) (rw z) (rw z) a
 
-  after : {j : Kind} {i : Entry} {p : Plan} → Way s j i p → Kept (carried s (p .effect)) m (cond (isZero (number (p .code))) (entered m i (waitsEnded s (carried s (p .effect)) m 24) t) t)
+  after : {j : Kind} {i : Entry} {p : Plan} → Way s j i p → AccountIn (carried s (p .effect)) m (cond (isZero (number (p .code))) (entered m i (waitsEnded s (carried s (p .effect)) m 24) t) t)
   unfolding carried
   after (refuses c n d) = rw (refused-not (number c) n) a
   after (accepts c v x n d done) = after-done done
 
 -- ---- any calls
-accounts : (m : ℕ) (calls : List (Context × Call)) (s : State) (t : Tally) → Sound s → Kept s m t → Kept (reachedBy step s calls) m (tally step m s calls t)
+accounts : (m : ℕ) (calls : List (Context × Call)) (s : State) (t : Tally) → Sound s → AccountIn s m t → AccountIn (reachedBy step s calls) m (tally step m s calls t)
 unfolding step reachedBy tally
 accounts m [] s t k a = a
 accounts m (c ∷ rest) s t k a =
     accounts m rest (step s (c .0) (c .1) .state) (tallied m s (c .1) (step s (c .0) (c .1)) t) (sound-stays-sound s (c .0) (c .1) k) (after s k m t a (way s (c .0) (c .1)))
 
-from-fresh : (m : ℕ) (calls : List (Context × Call)) → Kept (reachedBy step fresh calls) m (tally step m fresh calls noTally)
+from-fresh : (m : ℕ) (calls : List (Context × Call)) → AccountIn (reachedBy step fresh calls) m (tally step m fresh calls noTally)
 from-fresh m calls = accounts m calls fresh noTally fresh-is-sound (record { even = omega (arith, reads {A = ℕ} 13 0 m); none = λ _. refl })
 
 pub every-resource : EveryResource step

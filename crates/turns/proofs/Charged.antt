@@ -1,5 +1,5 @@
 -- A tick's own part: the running task's level is charged, and turned at its slice; so who stands in that level comes one tick nearer.
--- It rests on `charged` of model/specs/Effect, on who runs (kept) and on where a task stands in a turned row (Places).
+-- It rests on `charged` of model/specs/Effect, on who runs (soundness) and on where a task stands in a turned row (Places).
 use mathlib.Core.Path.{_≡_, refl, sym}
 use mathlib.Core.Bool.{Bool, true, false, cond, not, _&&_}
 use mathlib.Core.Logic.{⊎-elim}
@@ -19,10 +19,10 @@ use Rattle.model.specs.Test.{one, occ}
 use Rattle.model.specs.Sound.{Sound}
 use Rattle.laws.proofs.Number.{same?}
 use Rattle.laws.proofs.Table.{row-withRow-same, row-withRow-other}
-use Rattle.kept.specs.Statements.{Runs, nobody, stands}
-use Rattle.kept.proofs.Listed.{key-first, listed-in}
-use Rattle.kept.proofs.Changes.{task-in}
-use Rattle.kept.proofs.Kept.{runs-first}
+use Rattle.soundness.specs.Statements.{Runs, nobody, stands}
+use Rattle.soundness.proofs.Listed.{key-first, listed-in}
+use Rattle.soundness.proofs.Changes.{task-in}
+use Rattle.soundness.proofs.Soundness.{runs-first}
 use Rattle.turns.proofs.Places.{first-place, place-turned}
 use Rattle.turns.proofs.Levels.{level-priority, level-none, level-top, Nearer}
 

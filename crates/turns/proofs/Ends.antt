@@ -6,7 +6,7 @@ use mathlib.Core.List.{List, [], _∷_}
 use mathlib.Core.Logic.{_⊎_, inl, inr, ⊎-elim}
 use Prim.Native.Nat.{ℕ, zero, suc, _+_, _-_, _≤_, _<_}
 use native.Mathlib.Omega.{arith}
-use lib.Dec.{T, eqb}
+use lib.Dec.{T as So, eqb}
 use lib.ListN.{length}
 use borrow.Author.Tests.{eq-eqb, ne-eqb}
 use Rattle.model.specs.declared.Task.{Task}
@@ -20,7 +20,7 @@ use Rattle.laws.proofs.Number.{same?}
 use Rattle.laws.proofs.Occ.{one-ne, occ-none, occ-cons}
 use Rattle.laws.proofs.Padded.{padded-rest, first-none}
 use Rattle.laws.proofs.Record.{row-waits}
-use Rattle.kept.proofs.Moved.{task-kept, task-moved, tasks-moved}
+use Rattle.soundness.proofs.Moved.{task-kept, task-moved, tasks-moved}
 use Rattle.turns.specs.Statements.{Ended}
 
 -- ---- a tick
@@ -67,7 +67,7 @@ stopped-at s t long = go (eqb (task s t .activations) 0)
     go false = rw (task-moved (moved t x s) t (activated x) (rw (tasks-moved s t x) long))
 
 -- ---- a deletion
-pub ended-at : (q : List ℕ) (s : State) (t : ℕ) → 1 ≤ t → t < length (s .tasks) → T (padded q) → Ended s t dlt ⊎ (1 ≤ occ t q) → Ended (toldAll Deleted q s) t dlt
+pub ended-at : (q : List ℕ) (s : State) (t : ℕ) → 1 ≤ t → t < length (s .tasks) → So (padded q) → Ended s t dlt ⊎ (1 ≤ occ t q) → Ended (toldAll Deleted q s) t dlt
 unfolding toldAll told
 ended-at [] s t some long ends (inl done) = done
 ended-at [] s t some long ends (inr there) = absurd (omega (arith, occ-none t))

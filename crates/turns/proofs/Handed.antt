@@ -1,5 +1,5 @@
 -- Whose wait on a semaphore ends with 0 at a release of it: one task's if somebody waits, and nobody's else.
--- It goes by the definition of `waitsEnded` in specs/Tally, and by who stands first among the waiters of a sound state (kept).
+-- It goes by the definition of `waitsEnded` in specs/Tally, and by who stands first among the waiters of a sound state (soundness).
 use mathlib.Core.Path.{_≡_, refl}
 use mathlib.Core.Bool.{Bool, true, false, not, _&&_}
 use mathlib.Core.Logic.{⊎-elim}
@@ -15,8 +15,8 @@ use Rattle.model.specs.State.{task, moved}
 use Rattle.model.specs.Sound.{Sound}
 use Rattle.laws.proofs.Number.{same?}
 use Rattle.laws.proofs.Record.{row-waits}
-use Rattle.kept.proofs.Told.{waiter-in, first-waits, no-waiter}
-use Rattle.kept.proofs.Moved.{task-kept, task-moved}
+use Rattle.soundness.proofs.Told.{waiter-in, first-waits, no-waiter}
+use Rattle.soundness.proofs.Moved.{task-kept, task-moved}
 use Rattle.turns.specs.Tally.{endsWith0, waitsEnded}
 
 -- ---- how many end, by who does

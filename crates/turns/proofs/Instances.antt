@@ -3,7 +3,7 @@
 use mathlib.Core.Path.{_≡_, refl}
 use mathlib.Core.List.{List, [], _∷_}
 use Prim.Native.Nat.{ℕ, _*_, _-_, _≤_}
-use lib.Dec.{T, lit≤}
+use lib.Dec.{T as So, lit≤}
 use Rattle.model.specs.declared.State.{State}
 use Rattle.model.specs.declared.Context.{Context}
 use Rattle.model.specs.declared.Call.{Call}
@@ -12,8 +12,8 @@ use Rattle.model.specs.Task.{isRunnable}
 use Rattle.model.specs.State.{fresh, task, slice, charge, level}
 use Rattle.model.specs.Sound.{Sound}
 use Rattle.model.proofs.Words.{opened}
-use Rattle.kept.specs.Statements.{reached}
-use Rattle.kept.proofs.Kept.{fresh-is-sound, reached-is-sound}
+use Rattle.soundness.specs.Statements.{reached}
+use Rattle.soundness.proofs.Soundness.{fresh-is-sound, reached-is-sound}
 use Rattle.ways.specs.Kind.{terminate, setSlice}
 use Rattle.turns.specs.Statements.{placeIn, releases, Ended, HoldsBy, charges, Each, none, each, FirstBy, StaysRunnable, NotTerminated, KeepsPriority, SliceNotSet}
 use Rattle.turns.proofs.Words.{byTask, byInterrupt, aTick}
@@ -83,7 +83,7 @@ not-by-third d = seen-first d
 abbrev pub TurnsGiven : (P Q R : ℕ → ℕ → State → Context × Call → Type 0) → Type 0
 TurnsGiven P Q R = (s : State) (calls : List (Context × Call)) (l t q v : ℕ)
     → Sound s
-    → T (isRunnable (task s t)) → task s t .priority ≡ l → placeIn (level s l) t ≡ q
+    → So (isRunnable (task s t)) → task s t .priority ≡ l → placeIn (level s l) t ≡ q
     → slice s l ≡ v → 1 ≤ v
     → Each (P t l) s calls
     → Each (Q t l) s calls

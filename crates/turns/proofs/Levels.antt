@@ -5,7 +5,7 @@ use mathlib.Core.Bool.{Bool, true, false, cond, not, _&&_}
 use Prim.Native.Nat.{ℕ, _+_, _*_, _-_, _≤_}
 use native.Mathlib.Omega.{arith}
 use native.Mathlib.Nat.{mul-le-mul-right}
-use lib.Dec.{T, eqb}
+use lib.Dec.{T as So, eqb}
 use Rattle.model.specs.declared.Task.{Task}
 use Rattle.model.specs.declared.State.{State}
 use Rattle.model.specs.declared.News.{News}
@@ -17,7 +17,7 @@ use Rattle.model.specs.State.{slice, charge, level, moved}
 use Rattle.model.specs.Sound.{SoundTask}
 use Rattle.laws.proofs.Padded.{both}
 use Rattle.ways.proofs.Tests.{some-of}
-use Rattle.kept.proofs.Records.{level-live, live-made}
+use Rattle.soundness.proofs.Records.{level-live, live-made}
 use Rattle.turns.proofs.Still.{Keyed, Still}
 
 pub on-levels : Keyed levelOf (λ s. s .levels)
@@ -33,16 +33,16 @@ level-priority x h = go (isRunnable x) h
     go true h = refl
     go false h = absurd (omega arith)
 
-pub level-runnable : (x : Task) (l : ℕ) → T (isRunnable x) → x .priority ≡ l → levelOf x ≡ l
+pub level-runnable : (x : Task) (l : ℕ) → So (isRunnable x) → x .priority ≡ l → levelOf x ≡ l
 unfolding levelOf
 level-runnable x l h e = go (isRunnable x) h
   where
-    go : (b : Bool) → T b → cond b (x .priority) 0 ≡ l
+    go : (b : Bool) → So b → cond b (x .priority) 0 ≡ l
     go true h = e
     go false h = absurd h
 
 -- a runnable task has a level
-pub level-some : (x : Task) → SoundTask x → T (isRunnable x) → 1 ≤ x .priority
+pub level-some : (x : Task) → SoundTask x → So (isRunnable x) → 1 ≤ x .priority
 level-some x k h = k .priority (live-made x k (some-of (x .active) .yields (both (not (isDormant x)) (not (isSuspended x) && not (isWaiting x)) h .0))) .0
 
 pub level-none : levelOf noTask ≡ 0

@@ -4,7 +4,7 @@ use mathlib.Core.Path.{_≡_, refl, sym, ap, _∙_}
 use mathlib.Core.Bool.{Bool, true, false, not, _&&_}
 use Prim.Native.Nat.{ℕ, _+_, _≤_, _%_, _^_}
 use native.Mathlib.Omega.{arith}
-use lib.Dec.{T, eqb}
+use lib.Dec.{T as So, eqb}
 use lib.Seq.{getD-set-other}
 use Rattle.model.specs.declared.Task.{Task}
 use Rattle.model.specs.declared.State.{State}
@@ -22,15 +22,15 @@ use Rattle.model.specs.Effect.{stopped, toldAll, deleted, toldFlag, charged, ti
 use Rattle.model.specs.Test.{one}
 use Rattle.model.specs.Sound.{Sound}
 use Rattle.laws.proofs.Occ.{one-not}
-use Rattle.kept.specs.Statements.{stands}
-use Rattle.kept.proofs.Changes.{sound-withTime}
+use Rattle.soundness.specs.Statements.{stands}
+use Rattle.soundness.proofs.Changes.{sound-withTime}
 use Rattle.ways.specs.Kind as Kinds
 use Rattle.ways.specs.Kind.{Kind, setSlice, isTick}
 use Rattle.ways.specs.Entry.{Entry}
 use Rattle.ways.proofs.Done.{Done, Way, refuses, accepts}
 use Rattle.ways.proofs.Done.{Done as Ways}
 use Rattle.turns.proofs.Still.{tasks-charged, still-moved, still-stopped, still-told, still-lapsed}
-use Rattle.kept.proofs.Moved.{task-moved, numbers-moved, numbers-stopped, numbers-told, numbers-lapsed}
+use Rattle.soundness.proofs.Moved.{task-moved, numbers-moved, numbers-stopped, numbers-told, numbers-lapsed}
 use Rattle.turns.proofs.Levels.{on-levels, level-ended, level-told, level-aged, Nearer, nearer-still, nearer-then}
 use Rattle.turns.proofs.Charged.{low, long, runs-not, nearer-charged}
 
@@ -121,13 +121,13 @@ module _ (s : State) (k : Sound s) (l t : ℕ) (h : 1 ≤ l) (e : levelOf (task 
   nearer-done (Ways.flags f a b r) spared after some behind = record { steady = refl; falls = omega arith }
   nearer-done (Ways.tells f w a b made r) spared after some behind = telling-flag f w a b
 
-  pub nearer : {j : Kind} {i : Entry} {p : Plan} → Way s j i p → (T (not (isRefusal (p .code))) → Spared l t j) → levelOf (task (carried s (p .effect)) t) ≡ l → 1 ≤ slice s l → 1 ≤ place (level s l) t
+  pub nearer : {j : Kind} {i : Entry} {p : Plan} → Way s j i p → (So (not (isRefusal (p .code))) → Spared l t j) → levelOf (task (carried s (p .effect)) t) ≡ l → 1 ≤ slice s l → 1 ≤ place (level s l) t
       → Nearer l t s (carried s (p .effect)) (one (not (isRefusal (p .code)) && (isTick j && (eqb (levelOf (task s (running s))) l && not (eqb (slice s l) 0)))))
   unfolding carried
   nearer {j} (refuses c n d) spared after some behind = rw (one-not (isRefusal c) (isTick j && (eqb (levelOf (task s (running s))) l && not (eqb (slice s l) 0))) n) same
   nearer {j} (accepts c v x n d done) spared after some behind = counted-as (isRefusal c) n (nearer-done done (spared n) after some behind)
     where
-      counted-as : (b : Bool) → T (not b) → Nearer l t s (carried s x) (counts j)
+      counted-as : (b : Bool) → So (not b) → Nearer l t s (carried s x) (counts j)
           → Nearer l t s (carried s x) (one (not b && (isTick j && (eqb (levelOf (task s (running s))) l && not (eqb (slice s l) 0)))))
       counted-as true h z = absurd h
       counted-as false h z = z

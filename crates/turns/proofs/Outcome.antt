@@ -5,7 +5,7 @@ use mathlib.Core.Bool.{not, _&&_}
 use mathlib.Core.Logic.{_⊎_, inl, inr, ⊎-elim}
 use Prim.Native.Nat.{ℕ, suc, _+_, _-_, _≤_, _<_, _%_, _^_}
 use native.Mathlib.Omega.{arith}
-use lib.Dec.{T, eqb-refl}
+use lib.Dec.{T as So, eqb-refl}
 use lib.ListN.{length}
 use Rattle.model.specs.declared.Task.{Task}
 use Rattle.model.specs.declared.State.{State}
@@ -27,14 +27,14 @@ use Rattle.laws.proofs.Number.{same?}
 use Rattle.laws.proofs.Relisted.{row-relisted-from}
 use Rattle.laws.proofs.Occ.{one-eq, one-ne, one-not}
 use Rattle.laws.proofs.Record.{row-waits, flag-row}
-use Rattle.kept.proofs.Listed.{key-of, listed-in}
-use Rattle.kept.proofs.Told.{waiter-in, first-waits, no-waiter}
-use Rattle.kept.proofs.Running.{runner}
-use Rattle.kept.proofs.Changed.{change-row}
+use Rattle.soundness.proofs.Listed.{key-of, listed-in}
+use Rattle.soundness.proofs.Told.{waiter-in, first-waits, no-waiter}
+use Rattle.soundness.proofs.Running.{runner}
+use Rattle.soundness.proofs.Changed.{change-row}
 use Rattle.ways.specs.Kind as Kinds
 use Rattle.ways.specs.Kind.{Kind, forcedRelease, release, deletion, isReleaseOf}
 use Rattle.ways.specs.Entry.{Entry}
-use Rattle.kept.proofs.Moved.{task-moved}
+use Rattle.soundness.proofs.Moved.{task-moved}
 use Rattle.turns.specs.Statements.{Ended}
 use Rattle.turns.proofs.Places.{place-served}
 use Rattle.ways.proofs.Done.{Done, Way, refuses, accepts}
@@ -50,11 +50,11 @@ on-waits = record { relists = λ s u x. refl }
 pub data Outcome (s : State) (m t : ℕ) (k : Kind) (c : Code) (x : Effect) : Type 0 where
   waits : rowOf (task (carried s x) t) ≡ m
       → place (waiters (carried s x) m) t + one (not (isRefusal c) && isReleaseOf m k) ≤ place (waiters s m) t → Outcome s m t k c x
-  holds : T (not (isRefusal c) && isReleaseOf m k) → Ended (carried s x) t served → Outcome s m t k c x
-  lapses : T (not (isRefusal c)) → k ≡ Kinds.tick → Ended (carried s x) t timeout → Outcome s m t k c x
-  forced : T (not (isRefusal c)) → k ≡ forcedRelease t → Ended (carried s x) t released → Outcome s m t k c x
-  stops : T (not (isRefusal c)) → k ≡ Kinds.terminate t → task (carried s x) t .wait .kind ≡ nothing → Outcome s m t k c x
-  deletes : T (not (isRefusal c)) → k ≡ deletion m → Ended (carried s x) t dlt → Outcome s m t k c x
+  holds : So (not (isRefusal c) && isReleaseOf m k) → Ended (carried s x) t served → Outcome s m t k c x
+  lapses : So (not (isRefusal c)) → k ≡ Kinds.tick → Ended (carried s x) t timeout → Outcome s m t k c x
+  forced : So (not (isRefusal c)) → k ≡ forcedRelease t → Ended (carried s x) t released → Outcome s m t k c x
+  stops : So (not (isRefusal c)) → k ≡ Kinds.terminate t → task (carried s x) t .wait .kind ≡ nothing → Outcome s m t k c x
+  deletes : So (not (isRefusal c)) → k ≡ deletion m → Ended (carried s x) t dlt → Outcome s m t k c x
 
 module _ (s : State) (k : Sound s) (m t : ℕ) (h : 1 ≤ m) (top : m ≤ 12) (e : rowOf (task s t) ≡ m) where
   low : 1 ≤ t

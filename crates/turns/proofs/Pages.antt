@@ -3,14 +3,14 @@
 use mathlib.Core.Path.{_≡_, refl}
 use mathlib.Core.List.{List, [], _∷_, _++_}
 use Prim.Native.Nat.{ℕ}
-use lib.Dec.{T}
+use lib.Dec.{T as So}
 use Rattle.model.specs.declared.Context.{Context}
 use Rattle.model.specs.declared.Call.{Call}
 use Rattle.model.specs.declared.Call.the-variants.{TaskCreate, TaskDelete, TaskActivate, TaskExit, TaskTerminate, TaskSuspend, TaskReleaseWait, SemCreate, SemDelete, SemSignal, SemIsignal, SemAcquire, SemPolling, SemIpolling}
 use Rattle.model.specs.State.{fresh}
 use Rattle.model.proofs.Words.{opened}
 use Rattle.turns.specs.Tally.{reachedBy, waitsEnded, tally}
-use Rattle.turns.specs.Ledger.{Line, Page, kernel, agrees, allAgree}
+use Rattle.turns.specs.Ledger.{Line, Page, kernel, linesAgree, allAgree}
 use Rattle.turns.proofs.Words.{byTask, byInterrupt, aTick}
 
 abbrev after : Context × Call → List ℕ → Line
@@ -81,8 +81,8 @@ pages =
     page 1 activated (after (byTask (TaskTerminate 1)) (1 ∷ 0 ∷ 0 ∷ 1 ∷ 0 ∷ 0 ∷ []) ∷ after (byTask (SemSignal 1)) (1 ∷ 1 ∷ 1 ∷ 1 ∷ 0 ∷ 0 ∷ []) ∷ []) ∷
     []
 
-pub pages-agree : T (allAgree pages)
-unfolding opened example everyTerm oneWaits activated pages reachedBy tally waitsEnded agrees allAgree
+pub pages-agree : So (allAgree pages)
+unfolding opened example everyTerm oneWaits activated pages reachedBy tally waitsEnded linesAgree allAgree
 pages-agree = tt
 
 -- the records before and after that termination say what a served waiter's say: it waited, and now waits for nothing, with code 0

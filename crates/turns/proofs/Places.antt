@@ -13,7 +13,7 @@ use Rattle.model.specs.Row.{place, gap, first, joined, left, turned, row, relis
 use Rattle.model.specs.Test.{one, occ}
 use Rattle.laws.proofs.Number.{same?}
 use Rattle.laws.proofs.Occ.{one-ne, occ-none, occ-cons, place-at, place-in}
-use Rattle.kept.proofs.Listed.{row-cases}
+use Rattle.soundness.proofs.Listed.{row-cases}
 
 -- ---- the first of a row
 place-head : (x t : ℕ) (q : List ℕ) → (x ≡ t → ⊥) → place (x ∷ q) t ≡ suc (place q t)

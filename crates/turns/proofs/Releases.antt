@@ -4,7 +4,7 @@ use mathlib.Core.Path.{_≡_, refl, sym}
 use mathlib.Core.Bool.{Bool, false, not, _&&_}
 use Prim.Native.Nat.{ℕ, _≤_}
 use native.Mathlib.Omega.{arith}
-use lib.Dec.{T, eqb}
+use lib.Dec.{T as So, eqb}
 use lib.IntN.{ℤ, pos, negsuc}
 use borrow.Author.Tests.{ne-eqb}
 use Rattle.model.specs.declared.State.{State}
@@ -22,7 +22,7 @@ use Rattle.ways.proofs.Done.{Done as Ways}
 use Rattle.ways.proofs.Ways.{way}
 
 -- a refusal is a release in neither part
-refused-neither : (z : ℤ) (a b : Bool) → T (isNegative z) → not (isNegative z) && a ≡ isZero z && b
+refused-neither : (z : ℤ) (a b : Bool) → So (isNegative z) → not (isNegative z) && a ≡ isZero z && b
 refused-neither (pos n) a b h = absurd h
 refused-neither (negsuc n) a b h = refl
 

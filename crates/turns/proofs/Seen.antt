@@ -5,7 +5,7 @@ use mathlib.Core.Bool.{Bool, true, false, cond, not, _&&_, _||_}
 use mathlib.Core.List.{List, [], _∷_}
 use Prim.Native.Nat.{ℕ, zero, suc, _≤_}
 use native.Mathlib.Omega.{arith}
-use lib.Dec.{T, T-not, eqb}
+use lib.Dec.{T as So, T-not as So-not, eqb}
 use borrow.Author.Tests.{eq-eqb, ne-eqb}
 use Rattle.model.specs.declared.State.{State}
 use Rattle.model.specs.declared.Task.{Task}
@@ -24,26 +24,26 @@ seenFirst l t n s [] = eqb (firstOf (s .levels) l) t
 seenFirst l t zero s (a ∷ rest) = eqb (firstOf (s .levels) l) t
 seenFirst l t (suc n) s (a ∷ rest) = eqb (firstOf (s .levels) l) t || cond (isCharged s a l) (seenFirst l t n (next s a) rest) (seenFirst l t (suc n) (next s a) rest)
 
-or-right : (a b : Bool) → T b → T (a || b)
+or-right : (a b : Bool) → So b → So (a || b)
 or-right true b h = tt
 or-right false b h = h
 
-pub seen-first : {l t n : ℕ} {s : State} {calls : List (Context × Call)} → FirstBy l t n s calls → T (seenFirst l t n s calls)
+pub seen-first : {l t n : ℕ} {s : State} {calls : List (Context × Call)} → FirstBy l t n s calls → So (seenFirst l t n s calls)
 unfolding seenFirst
 seen-first {l} {t} (first {n} {s} {calls} e) = go n calls
   where
-    go : (n : ℕ) (calls : List (Context × Call)) → T (seenFirst l t n s calls)
+    go : (n : ℕ) (calls : List (Context × Call)) → So (seenFirst l t n s calls)
     go n [] = rw (eq-eqb (firstOf (s .levels) l) t e) tt
     go zero (a ∷ rest) = rw (eq-eqb (firstOf (s .levels) l) t e) tt
     go (suc n) (a ∷ rest) = rw (eq-eqb (firstOf (s .levels) l) t e) tt
 seen-first {l} {t} (charged {n} {s} {a} {rest} c d) = or-right (eqb (firstOf (s .levels) l) t) _ (go (isCharged s a l) c (seen-first d))
   where
-    go : (b : Bool) → T b → T (seenFirst l t n (next s a) rest) → T (cond b (seenFirst l t n (next s a) rest) (seenFirst l t (suc n) (next s a) rest))
+    go : (b : Bool) → So b → So (seenFirst l t n (next s a) rest) → So (cond b (seenFirst l t n (next s a) rest) (seenFirst l t (suc n) (next s a) rest))
     go true c h = h
     go false c h = absurd c
 seen-first {l} {t} (later {n} {s} {a} {rest} c d) = or-right (eqb (firstOf (s .levels) l) t) _ (go (isCharged s a l) c (seen-first d))
   where
-    go : (b : Bool) → T (not b) → T (seenFirst l t (suc n) (next s a) rest) → T (cond b (seenFirst l t n (next s a) rest) (seenFirst l t (suc n) (next s a) rest))
+    go : (b : Bool) → So (not b) → So (seenFirst l t (suc n) (next s a) rest) → So (cond b (seenFirst l t n (next s a) rest) (seenFirst l t (suc n) (next s a) rest))
     go true c h = absurd c
     go false c h = h
 
@@ -65,18 +65,18 @@ ended-none (byForcedRelease d e) = e .over
 ended-none (byTermination d e) = e
 ended-none (byDeletion d e) = e .over
 
-pub seen-over : {m t n : ℕ} {s : State} {calls : List (Context × Call)} → 1 ≤ m → HoldsBy m t n s calls → T (seenOver m t n s calls)
+pub seen-over : {m t n : ℕ} {s : State} {calls : List (Context × Call)} → 1 ≤ m → HoldsBy m t n s calls → So (seenOver m t n s calls)
 unfolding seenOver
 seen-over {m} {t} low (holds {n} {s} {a} {rest} r d) = rw (row-none (task (next s a) t) m low (d .over)) tt
 seen-over {m} {t} low (sooner {n} {s} {a} {rest} d) = rw (row-none (task (next s a) t) m low (ended-none d)) tt
 seen-over {m} {t} low (passes {n} {s} {a} {rest} r w d) = rw (eq-eqb (rowOf (task (next s a) t)) m w) (go (isRelease s a m) r (seen-over low d))
   where
-    go : (b : Bool) → T b → T (seenOver m t n (next s a) rest) → T (cond b (seenOver m t n (next s a) rest) (seenOver m t (suc n) (next s a) rest))
+    go : (b : Bool) → So b → So (seenOver m t n (next s a) rest) → So (cond b (seenOver m t n (next s a) rest) (seenOver m t (suc n) (next s a) rest))
     go true c h = h
     go false c h = absurd c
 seen-over {m} {t} low (waits {n} {s} {a} {rest} r w d) = rw (eq-eqb (rowOf (task (next s a) t)) m w) (go (isRelease s a m) r (seen-over low d))
   where
-    go : (b : Bool) → T (not b) → T (seenOver m t (suc n) (next s a) rest) → T (cond b (seenOver m t n (next s a) rest) (seenOver m t (suc n) (next s a) rest))
+    go : (b : Bool) → So (not b) → So (seenOver m t (suc n) (next s a) rest) → So (cond b (seenOver m t n (next s a) rest) (seenOver m t (suc n) (next s a) rest))
     go true c h = absurd c
     go false c h = h
 
@@ -95,10 +95,10 @@ unfoldable pub noneIs : Kind → List (Context × Call) → Bool
 noneIs k [] = true
 noneIs k (a ∷ rest) = not (eqb (number (kind (a .1))) (number k)) && noneIs k rest
 
-differs : (j k : Kind) → T (not (eqb (number j) (number k))) → j ≡ k → ⊥
-differs j k h e = let same : T (eqb (number j) (number k)) = rw (eq-eqb (number j) (number k) (ap number e)) tt in T-not (eqb (number j) (number k)) h same
+differs : (j k : Kind) → So (not (eqb (number j) (number k))) → j ≡ k → ⊥
+differs j k h e = let same : So (eqb (number j) (number k)) = rw (eq-eqb (number j) (number k) (ap number e)) tt in So-not (eqb (number j) (number k)) h same
 
-pub none-does : (k : Kind) (calls : List (Context × Call)) (s : State) → T (noneIs k calls) → Each (λ z a. Does z a k → ⊥) s calls
+pub none-does : (k : Kind) (calls : List (Context × Call)) (s : State) → So (noneIs k calls) → Each (λ z a. Does z a k → ⊥) s calls
 unfolding noneIs
 none-does k [] s h = none
 none-does k (a ∷ rest) s h =

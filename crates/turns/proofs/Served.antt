@@ -5,7 +5,7 @@ use mathlib.Core.Bool.{Bool, true, false, not}
 use mathlib.Core.List.{List, [], _∷_}
 use Prim.Native.Nat.{ℕ, zero, suc, _+_, _≤_}
 use native.Mathlib.Omega.{arith}
-use lib.Dec.{T}
+use lib.Dec.{T as So}
 use Rattle.model.specs.declared.State.{State}
 use Rattle.model.specs.declared.Context.{Context}
 use Rattle.model.specs.declared.Call.{Call}
@@ -14,7 +14,7 @@ use Rattle.model.specs.State.{waiters}
 use Rattle.model.specs.Call.{planned, step}
 use Rattle.model.specs.Test.{one}
 use Rattle.model.specs.Sound.{Sound}
-use Rattle.kept.proofs.Kept.{sound-stays-sound}
+use Rattle.soundness.proofs.Soundness.{sound-stays-sound}
 use Rattle.ways.specs.Kind.{kind}
 use Rattle.turns.specs.Statements as Say
 use Rattle.turns.specs.Statements.{next, isRelease, releases, WaitsOn, HoldsBy, WaitersAreServed}
@@ -32,8 +32,8 @@ held m t h top (a ∷ rest) s n k e turn enough =
         → ((j : ℕ) → WaitsOn (next s a) m t → place (waiters (next s a) m) t + 1 ≤ j → j ≤ releases (next s a) rest m → HoldsBy m t j (next s a) rest)
         → HoldsBy m t n s (a ∷ rest)
     goes b zero y w turn enough more = absurd (omega arith)
-    goes true (suc n) y w turn enough more = let r : T (isRelease s a m) = rw y tt in Say.passes r w (more n w (omega arith) (omega arith))
-    goes false (suc n) y w turn enough more = let r : T (not (isRelease s a m)) = rw y tt in Say.waits r w (more (suc n) w (omega arith) (omega arith))
+    goes true (suc n) y w turn enough more = let r : So (isRelease s a m) = rw y tt in Say.passes r w (more n w (omega arith) (omega arith))
+    goes false (suc n) y w turn enough more = let r : So (not (isRelease s a m)) = rw y tt in Say.waits r w (more (suc n) w (omega arith) (omega arith))
 
     -- a turn that is still to come is not the 0-th
     some : (n : ℕ) → 1 ≤ n → ((j : ℕ) → HoldsBy m t (suc j) s (a ∷ rest)) → HoldsBy m t n s (a ∷ rest)

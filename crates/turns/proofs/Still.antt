@@ -21,7 +21,7 @@ use Rattle.model.specs.Effect.{stopped, toldAll, chargedLevel, charged, lapsed}
 use Rattle.model.specs.Test.{occ}
 use Rattle.laws.proofs.Number.{same?, below?}
 use Rattle.laws.proofs.Occ.{occ-cons, one-eq}
-use Rattle.kept.proofs.Moved.{task-kept, task-moved}
+use Rattle.soundness.proofs.Moved.{task-kept, task-moved}
 use Rattle.turns.proofs.Places.{place-relisted}
 
 -- ---- the record of t after a move

@@ -7,7 +7,7 @@ use mathlib.Core.Logic.{⊎-elim}
 use Prim.Native.Nat.{ℕ, zero, suc, _+_, _*_, _-_, _≤_, _<_}
 use native.Mathlib.Omega.{arith}
 use native.Mathlib.Nat.{mul-le-mul-right}
-use lib.Dec.{T}
+use lib.Dec.{T as So}
 use Rattle.model.specs.declared.State.{State}
 use Rattle.model.specs.declared.Context.{Context}
 use Rattle.model.specs.declared.Call.{Call}
@@ -18,7 +18,7 @@ use Rattle.model.specs.Call.{step}
 use Rattle.model.specs.Test.{one}
 use Rattle.model.specs.Sound.{Sound}
 use Rattle.laws.proofs.Number.{same?}
-use Rattle.kept.proofs.Kept.{sound-stays-sound}
+use Rattle.soundness.proofs.Soundness.{sound-stays-sound}
 use Rattle.turns.specs.Statements as Say
 use Rattle.turns.specs.Statements.{next, isCharged, charges, IsFirst, StaysRunnable, NotTerminated, KeepsPriority, SliceNotSet, Each, none, each, FirstBy, TurnsComeRound}
 use Rattle.turns.proofs.Places.{place-first}
@@ -66,10 +66,10 @@ module _ (l t : ℕ) (h : 1 ≤ l) where
           → FirstBy l t n s (a ∷ rest)
       goes b y zero d far turn enough more = absurd (behind s k far some (omega arith))
       goes true y (suc n) d far turn enough more =
-          let r : T (isCharged s a l) = rw y tt in
+          let r : So (isCharged s a l) = rw y tt in
           Say.charged r (more n (rw (d .steady) some) (rw (d .steady) (omega (arith, d .falls))) (omega arith))
       goes false y (suc n) d far turn enough more =
-          let r : T (not (isCharged s a l)) = rw y tt in
+          let r : So (not (isCharged s a l)) = rw y tt in
           Say.later r (more (suc n) (rw (d .steady) some) (rw (d .steady) (omega (arith, d .falls))) (omega arith))
 
 pub turns-come-round : TurnsComeRound

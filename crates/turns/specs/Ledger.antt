@@ -33,10 +33,10 @@ accountOf s m t = t .start ∷ t .released ∷ count s m ∷ t .atOnce ∷ t .po
 abbrev pub accountAfter : List (Context × Call) → ℕ → List ℕ
 accountAfter calls m = accountOf (reachedBy kernel fresh calls) m (tally kernel m fresh calls noTally)
 
-unfoldable pub agrees : ℕ → List (Context × Call) → List Line → Bool
-agrees m given [] = true
-agrees m given (l ∷ rest) = let calls = given ++ (l .call ∷ []) in sameList (accountAfter calls m) (l .account) && agrees m calls rest
+unfoldable pub linesAgree : ℕ → List (Context × Call) → List Line → Bool
+linesAgree m given [] = true
+linesAgree m given (l ∷ rest) = let calls = given ++ (l .call ∷ []) in sameList (accountAfter calls m) (l .account) && linesAgree m calls rest
 
 unfoldable pub allAgree : List Page → Bool
 allAgree [] = true
-allAgree (p ∷ rest) = agrees (p .semaphore) (p .given) (p .lines) && allAgree rest
+allAgree (p ∷ rest) = linesAgree (p .semaphore) (p .given) (p .lines) && allAgree rest

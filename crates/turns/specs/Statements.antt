@@ -4,7 +4,7 @@ use mathlib.Core.Path.{_≡_}
 use mathlib.Core.Bool.{Bool, not, _&&_}
 use mathlib.Core.List.{List, [], _∷_}
 use Prim.Native.Nat.{ℕ, suc, _+_, _*_, _-_, _≤_}
-use lib.Dec.{T, eqb}
+use lib.Dec.{T as So, eqb}
 use Rattle.model.specs.declared.State.{State}
 use Rattle.model.specs.declared.Context.{Context}
 use Rattle.model.specs.declared.Call.{Call}
@@ -31,7 +31,7 @@ isAccepted s a = not (isRefusal (step s (a .0) (a .1) .code))
 
 -- it is accepted, and of this kind
 pub record Does (s : State) (a : Context × Call) (k : Kind) : Type 0 where
-  pub accepted : T (isAccepted s a)
+  pub accepted : So (isAccepted s a)
   pub is : kind (a .1) ≡ k
 
 -- a place in a queue counts from 1
@@ -68,16 +68,16 @@ pub data EndsSooner (s : State) (a : Context × Call) (m t : ℕ) : Type 0 where
 pub data HoldsBy (m t : ℕ) : ℕ → State → List (Context × Call) → Type 0 where
   -- a successful release ends it with 0: t holds its resource
   holds : {n : ℕ} {s : State} {a : Context × Call} {rest : List (Context × Call)}
-      → T (isRelease s a m) → Ended (next s a) t served → HoldsBy m t (suc n) s (a ∷ rest)
+      → So (isRelease s a m) → Ended (next s a) t served → HoldsBy m t (suc n) s (a ∷ rest)
   -- it ends sooner
   sooner : {n : ℕ} {s : State} {a : Context × Call} {rest : List (Context × Call)}
       → EndsSooner s a m t → HoldsBy m t (suc n) s (a ∷ rest)
   -- a successful release, after which t still waits, is one of the n
   passes : {n : ℕ} {s : State} {a : Context × Call} {rest : List (Context × Call)}
-      → T (isRelease s a m) → WaitsOn (next s a) m t → HoldsBy m t n (next s a) rest → HoldsBy m t (suc n) s (a ∷ rest)
+      → So (isRelease s a m) → WaitsOn (next s a) m t → HoldsBy m t n (next s a) rest → HoldsBy m t (suc n) s (a ∷ rest)
   -- any other call, after which t still waits, is not
   waits : {n : ℕ} {s : State} {a : Context × Call} {rest : List (Context × Call)}
-      → T (not (isRelease s a m)) → WaitsOn (next s a) m t → HoldsBy m t (suc n) (next s a) rest → HoldsBy m t (suc n) s (a ∷ rest)
+      → So (not (isRelease s a m)) → WaitsOn (next s a) m t → HoldsBy m t (suc n) (next s a) rest → HoldsBy m t (suc n) s (a ∷ rest)
 
 abbrev pub WaitersAreServed : Type 0
 WaitersAreServed = (s : State) (calls : List (Context × Call)) (m t p : ℕ)
@@ -103,7 +103,7 @@ IsFirst s l t = firstOf (s .levels) l ≡ t
 -- what is provided of a call that comes to s. A termination may restart the task at once, by its activation count;
 -- an exit needs no proviso, as only the running task exits, and that is first of its level
 abbrev pub StaysRunnable : ℕ → State → Context × Call → Type 0
-StaysRunnable t s a = T (isRunnable (task (next s a) t))
+StaysRunnable t s a = So (isRunnable (task (next s a) t))
 
 abbrev pub NotTerminated : ℕ → State → Context × Call → Type 0
 NotTerminated t s a = Does s a (terminate t) → ⊥
@@ -124,15 +124,15 @@ pub data FirstBy (l t : ℕ) : ℕ → State → List (Context × Call) → Type
   first : {n : ℕ} {s : State} {calls : List (Context × Call)} → IsFirst s l t → FirstBy l t n s calls
   -- a tick charged to l is one of the n
   charged : {n : ℕ} {s : State} {a : Context × Call} {rest : List (Context × Call)}
-      → T (isCharged s a l) → FirstBy l t n (next s a) rest → FirstBy l t (suc n) s (a ∷ rest)
+      → So (isCharged s a l) → FirstBy l t n (next s a) rest → FirstBy l t (suc n) s (a ∷ rest)
   -- any other call is not
   later : {n : ℕ} {s : State} {a : Context × Call} {rest : List (Context × Call)}
-      → T (not (isCharged s a l)) → FirstBy l t (suc n) (next s a) rest → FirstBy l t (suc n) s (a ∷ rest)
+      → So (not (isCharged s a l)) → FirstBy l t (suc n) (next s a) rest → FirstBy l t (suc n) s (a ∷ rest)
 
 abbrev pub TurnsComeRound : Type 0
 TurnsComeRound = (s : State) (calls : List (Context × Call)) (l t q v : ℕ)
     → Sound s
-    → T (isRunnable (task s t)) → task s t .priority ≡ l → placeIn (level s l) t ≡ q
+    → So (isRunnable (task s t)) → task s t .priority ≡ l → placeIn (level s l) t ≡ q
     → slice s l ≡ v → 1 ≤ v
     → Each (StaysRunnable t) s calls
     → Each (NotTerminated t) s calls
@@ -153,13 +153,13 @@ Balanced t n = t .start + t .released ≡ n + (t .atOnce + t .polled + t .handed
 
 abbrev pub EveryResource : Kernel → Type 0
 EveryResource k = (calls : List (Context × Call)) (m : ℕ)
-    → T (exists (reachedBy k fresh calls) m)
+    → So (exists (reachedBy k fresh calls) m)
     → Balanced (tally k m fresh calls noTally) (count (reachedBy k fresh calls) m)
 
 -- a semaphore that does not exist has no tally: deletion ends it
 abbrev pub NoneWithout : Kernel → Type 0
 NoneWithout k = (calls : List (Context × Call)) (m : ℕ)
-    → T (not (exists (reachedBy k fresh calls) m))
+    → So (not (exists (reachedBy k fresh calls) m))
     → tally k m fresh calls noTally ≡ noTally
 
 -- what is a successful release in A, accepted, is one in C, answered with 0

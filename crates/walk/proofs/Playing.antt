@@ -20,19 +20,19 @@ use Rattle.lines.specs.Lines.{letterOf, lineOf}
 use Rattle.lines.proofs.Within.{LineIn, line-in}
 use Rattle.walk.specs.declared.Turn.{Turn}
 use Rattle.walk.specs.declared.Turn.the-variants.{Plays, Faults}
-use Rattle.walk.specs.Turn.{turned, told, turnOf}
+use Rattle.walk.specs.Turn.{turnIn, steppedOf, turnOf}
 
-pub faulted : (run at : ℕ) (s : State) (l : Line) → l ≡ Unreadable → turned Faults s ≡ turnOf run at s l
+pub faulted : (run at : ℕ) (s : State) (l : Line) → l ≡ Unreadable → turnIn Faults s ≡ turnOf run at s l
 unfolding turnOf
 faulted run at s l e = rw e
 
 pub played : (run at : ℕ) (s : State) (l : Line) (x : Context) (c : Call) (n : ℕ) (r : Stepped) (s′ : State) → l ≡ Reads x c n → answerOf r s′ ≡ stepFrom run s x c
-    → turned (Plays r (at + n)) s′ ≡ turnOf run at s l
+    → turnIn (Plays r (at + n)) s′ ≡ turnOf run at s l
 unfolding turnOf
-played run at s l x c n r s′ e f = rw e (ap (λ (z : Answer). turned (Plays (told z) (at + n)) (z .state)) f)
+played run at s l x c n r s′ e f = rw e (ap (λ (z : Answer). turnIn (Plays (steppedOf z) (at + n)) (z .state)) f)
 
 -- past the end there is no line
-pub beyond : (run at : ℕ) (s : State) (wide : Bool) (file : List ℕ) → length file < at → turned Faults s ≡ turnOf run at s (lineOf wide (drop at file))
+pub beyond : (run at : ℕ) (s : State) (wide : Bool) (file : List ℕ) → length file < at → turnIn Faults s ≡ turnOf run at s (lineOf wide (drop at file))
 unfolding lineOf letterOf begins
 beyond run at s wide file h = faulted run at s (lineOf wide (drop at file)) (rw (drop-of-length-le file {i = at} (omega arith)))
 

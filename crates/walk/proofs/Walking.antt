@@ -30,7 +30,7 @@ use Rattle.walk.specs.declared.Turn.{Turn}
 use Rattle.walk.specs.declared.Turn.the-variants.{Plays, Faults}
 use Rattle.walk.specs.Script.{Script, done, fault, next, scriptIn, faultOf}
 use Rattle.walk.specs.Rows.{Row, rowsBy}
-use Rattle.walk.specs.Turn.{Turned, turned, told, turnOf}
+use Rattle.walk.specs.Turn.{Turned, turnIn, steppedOf, turnOf}
 use Rattle.walk.proofs.Scripts.{script-drop, script-end, script-fault, script-next}
 
 -- the script from `at` on, where n calls were worked
@@ -40,8 +40,8 @@ rest wide file at n = scriptIn wide 0 (drop at file) (n + 2)
 abbrev pub whole : Bool → List ℕ → ℕ → Script
 whole wide file h = scriptIn wide h file 2
 
-abbrev pub rowOf : Stepped → Row
-rowOf r = record { code = r .code; running = r .running }
+abbrev pub answerRow : Stepped → Row
+answerRow r = record { code = r .code; running = r .running }
 
 -- n lines of a list whose header has h bytes were walked; the next begins at `at`, the state is s, and `run` runs
 pub record Walk (wide : Bool) (file : List ℕ) (h : ℕ) (rows : List Row) (at n run : ℕ) (s : State) : Type 0 where
@@ -81,7 +81,7 @@ module _ (wide : Bool) (file : List ℕ) (h : ℕ) (rows : List Row) (at n run :
       let d : rest wide file at n ≡ done = script-end wide file at (n + 2) e in
       (sym (rw d at (w .faults)), sym (append-nil (rows)) ∙ (rw d at (w .all)))
 
-  module _ (more : at < length file) (t : Turn) (s′ : State) (e : turned t s′ ≡ turnOf run at s (lineOf wide (drop at file))) where
+  module _ (more : at < length file) (t : Turn) (s′ : State) (e : turnIn t s′ ≡ turnOf run at s (lineOf wide (drop at file))) where
     -- a line that can't be read
     pub stops : t ≡ Faults → n + 2 ≡ faultOf (whole wide file h)
     unfolding faultOf turnOf
@@ -91,12 +91,12 @@ module _ (wide : Bool) (file : List ℕ) (h : ℕ) (rows : List Row) (at n run :
         go Unreadable g = rw (script-fault wide file at (n + 2) more g) at (w .faults)
         go (Reads x c m) g =
             let r = stepFrom run s x c in
-            let p : Faults ≡ Plays (told r) (at + m) = sym f ∙ ap (λ (u : Turned). u .turn) (rw g at e) in
+            let p : Faults ≡ Plays (steppedOf r) (at + m) = sym f ∙ ap (λ (u : Turned). u .turn) (rw g at e) in
             let z : _≡_ {A = ℕ} 0 1 = cc in absurd (omega arith)
 
     -- a line that can: one row more
     onward : (x : Context) (c : Call) (m : ℕ) → lineOf wide (drop at file) ≡ Reads x c m
-        → (at < at + m) × Walk wide file h (rows ++ (rowOf (told (stepFrom run s x c)) ∷ [])) (at + m) (n + 1) (stepFrom run s x c .running) (stepFrom run s x c .state)
+        → (at < at + m) × Walk wide file h (rows ++ (answerRow (steppedOf (stepFrom run s x c)) ∷ [])) (at + m) (n + 1) (stepFrom run s x c .running) (stepFrom run s x c .state)
     unfolding faultOf rowsBy
     onward x c m g =
         let a = stepFrom run s x c in
@@ -118,18 +118,18 @@ module _ (wide : Bool) (file : List ℕ) (h : ℕ) (rows : List Row) (at n run :
           },
         )
 
-    pub on : (r : Stepped) (to : ℕ) → t ≡ Plays r to → (at < to) × Walk wide file h (rows ++ (rowOf r ∷ [])) to (n + 1) (r .running) s′
+    pub on : (r : Stepped) (to : ℕ) → t ≡ Plays r to → (at < to) × Walk wide file h (rows ++ (answerRow r ∷ [])) to (n + 1) (r .running) s′
     unfolding turnOf
     on r to f = go (lineOf wide (drop at file)) refl
       where
-        go : (l : Line) → lineOf wide (drop at file) ≡ l → (at < to) × Walk wide file h (rows ++ (rowOf r ∷ [])) to (n + 1) (r .running) s′
+        go : (l : Line) → lineOf wide (drop at file) ≡ l → (at < to) × Walk wide file h (rows ++ (answerRow r ∷ [])) to (n + 1) (r .running) s′
         go Unreadable g =
             let p : Plays r to ≡ Faults = sym f ∙ ap (λ (u : Turned). u .turn) (rw g at e) in
             let z : _≡_ {A = ℕ} 0 1 = cc in absurd (omega arith)
         go (Reads x c m) g =
             let a = stepFrom run s x c in
-            let p : Plays r to ≡ Plays (told a) (at + m) = sym f ∙ ap (λ (u : Turned). u .turn) (rw g at e) in
+            let p : Plays r to ≡ Plays (steppedOf a) (at + m) = sym f ∙ ap (λ (u : Turned). u .turn) (rw g at e) in
             let q : s′ ≡ a .state = ap (λ (u : Turned). u .state) (rw g at e) in
-            let b : r ≡ told a = cc in
+            let b : r ≡ steppedOf a = cc in
             let d : to ≡ at + m = cc in
             rw (d, q, b) (onward x c m g)

@@ -14,14 +14,14 @@ pub record Turned : Type 0 where
   pub turn : Turn
   pub state : State
 
-abbrev pub turned : Turn → State → Turned
-turned t s = record { turn = t; state = s }
+abbrev pub turnIn : Turn → State → Turned
+turnIn t s = record { turn = t; state = s }
 
 -- what a step returns, without the state
-abbrev pub told : Answer → Stepped
-told r = record { code = r .code; running = r .running; value = r .value }
+abbrev pub steppedOf : Answer → Stepped
+steppedOf r = record { code = r .code; running = r .running; value = r .value }
 
 -- a line that begins at `at`, where `run` runs
 unfoldable pub turnOf : ℕ → ℕ → State → Line → Turned
-turnOf run at s (Reads x c n) = let r = stepFrom run s x c in record { turn = Plays (told r) (at + n); state = r .state }
+turnOf run at s (Reads x c n) = let r = stepFrom run s x c in record { turn = Plays (steppedOf r) (at + n); state = r .state }
 turnOf run at s Unreadable = record { turn = Faults; state = s }

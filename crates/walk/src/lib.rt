@@ -4,7 +4,7 @@ ghost use mathlib.Core.Path.{_≡_};
 ghost use lib.ListN.{drop};
 ghost use Rattle.lines.specs.Lines.{lineOf};
 ghost use Rattle.tables.specs.Lent.{before, after};
-ghost use Rattle.walk.specs.Turn.{turned, turnOf};
+ghost use Rattle.walk.specs.Turn.{turnIn, turnOf};
 use kernel::Stepped;
 use lines::line::Line;
 use lines::line::read_line;
@@ -27,7 +27,7 @@ pub fn play_line(
     wide: bool,
     at: usize,
 ) -> Turn
-    ensures { λ r. ⌜ turned r (after bytes words levels waits numbers) ≡ turnOf run at (before bytes words levels waits numbers) (lineOf wide (drop at (now (file .entry)))) ⌝ }
+    ensures { λ r. ⌜ turnIn r (after bytes words levels waits numbers) ≡ turnOf run at (before bytes words levels waits numbers) (lineOf wide (drop at (now (file .entry)))) ⌝ }
 {
     if file.len() < at {
         return Turn::Faults;

@@ -3,7 +3,7 @@
 use mathlib.Core.Path.{_≡_}
 use mathlib.Core.Bool.{Bool, true, false, cond, not, _&&_}
 use Prim.Native.Nat.{ℕ, _+_, _-_, _≤_, _<_}
-use lib.Dec.{T, ltb}
+use lib.Dec.{T as So, ltb}
 use lib.IntN.{ℤ, pos, negsuc}
 use Rattle.model.specs.declared.Wait.{Wait}
 use Rattle.model.specs.declared.Task.{Task}
@@ -66,7 +66,7 @@ pub data Change (s : State) (t : ℕ) : Task → Type 0 where
 pub data Begins (s : State) : Wait → Type 0 where
   sleeps : (d : ℕ) → 1 ≤ d → task s (running s) .wakeups ≡ 0 → Begins s (asleep d)
   queues : (m d : ℕ) → Made s m → 1 ≤ d → count s m ≡ 0 → Begins s (onSemaphore m d)
-  asks : (f p m d : ℕ) → FlagMade s f → 1 ≤ p → m ≤ 1 → 1 ≤ d → T (not (isOccupied (flag s f))) → isMet p m (bitsOf s f) ≡ false → Begins s (onFlag f p m d)
+  asks : (f p m d : ℕ) → FlagMade s f → 1 ≤ p → m ≤ 1 → 1 ≤ d → So (not (isOccupied (flag s f))) → isMet p m (bitsOf s f) ≡ false → Begins s (onFlag f p m d)
 
 -- an entry that takes a resource of m
 pub data Takes (m : ℕ) : Entry → Type 0 where
@@ -75,7 +75,7 @@ pub data Takes (m : ℕ) : Entry → Type 0 where
 
 -- the attributes and bits that flag f gets
 pub data Reflag (s : State) (f : ℕ) : ℕ → ℕ → Type 0 where
-  creates : (a b : ℕ) → 1 ≤ f → f ≤ 8 → T (isAttributes a) → attribute s f ≡ 0 → Reflag s f (a + 1) b
+  creates : (a b : ℕ) → 1 ≤ f → f ≤ 8 → So (isAttributes a) → attribute s f ≡ 0 → Reflag s f (a + 1) b
   clears : (p : ℕ) → FlagMade s f → Reflag s f (attribute s f) (withoutBits (bitsOf s f) p)
   meets : FlagMade s f → Reflag s f (attribute s f) (bitsLeft (attribute s f) true (bitsOf s f))
 
@@ -111,11 +111,11 @@ oneDigit (pos n) = ltb n 10
 oneDigit (negsuc n) = ltb n 9
 
 pub data Way (s : State) (k : Kind) (i : Entry) : Plan → Type 0 where
-  refuses : (c : Code) → T (isRefusal c) → T (oneDigit (number c)) → Way s k i (refused c)
-  accepts : (c : Code) (v : ℕ) (x : Effect) → T (not (isRefusal c)) → T (oneDigit (number c)) → Done s k i c x → Way s k i (record { code = c; value = v; effect = x })
+  refuses : (c : Code) → So (isRefusal c) → So (oneDigit (number c)) → Way s k i (refused c)
+  accepts : (c : Code) (v : ℕ) (x : Effect) → So (not (isRefusal c)) → So (oneDigit (number c)) → Done s k i c x → Way s k i (record { code = c; value = v; effect = x })
 
 module _ {s : State} {k : Kind} {i : Entry} where
-  pub digit : {p : Plan} → Way s k i p → T (oneDigit (number (p .code)))
+  pub digit : {p : Plan} → Way s k i p → So (oneDigit (number (p .code)))
   digit (refuses c n d) = d
   digit (accepts c v x n d done) = d
 
@@ -126,7 +126,7 @@ module _ {s : State} {k : Kind} {i : Entry} where
   pub pending : {x : Effect} → Done s k i Pending x → Way s k i (answers Pending x)
   pending {x} d = accepts Pending 0 x tt tt d
 
-  pub needs : {b : Bool} {A : Type 0} → Says b A → (c : Code) (p : Plan) → T (isRefusal c && oneDigit (number c)) → (A → Way s k i p) → Way s k i (need b c p)
+  pub needs : {b : Bool} {A : Type 0} → Says b A → (c : Code) (p : Plan) → So (isRefusal c && oneDigit (number c)) → (A → Way s k i p) → Way s k i (need b c p)
   needs {b = true} says c p n f = f (says .yields tt)
   needs {b = false} says c p n f = let r = both (isRefusal c) (oneDigit (number c)) n in refuses c (r .0) (r .1)
 

@@ -7,7 +7,7 @@ use Rattle.model.specs.Row.{firstOf}
 use Rattle.model.specs.Flag.{isAttributes, isMet, flagRow, bitsLeft, withoutBits}
 use Rattle.model.specs.Task.{endless, onSemaphore, onFlag}
 use Rattle.model.specs.State.{task, count, maximum, attribute, bitsOf, semaphore, flag, running}
-use Rattle.model.specs.Service.{semCreate, semDelete, signal, acquire, polling, eventCreate, eventDelete, eventSet, eventClear, isOccupied, taken, eventWait, eventPoll}
+use Rattle.model.specs.Service.{semCreate, semDelete, signal, acquire, polling, flagCreate, flagDelete, flagSet, flagClear, isOccupied, taken, flagWait, flagPoll}
 use Rattle.laws.proofs.Says.{says-same, says-not, says-and}
 use Rattle.ways.specs.Kind.{other, release, deletion}
 use Rattle.ways.specs.Entry as Entries
@@ -53,22 +53,22 @@ module _ (s : State) (mine : Bool) where
   flag-exists : (f : ℕ) → (1 ≤ f) × (f ≤ 8) → 1 ≤ attribute s f → FlagMade s f
   flag-exists f r made = record { low = r .0; top = r .1; made = made }
 
-  pub way-eventCreate : (f a b : ℕ) → Way s other Entries.none (eventCreate mine f a b (flag s f))
-  unfolding eventCreate
-  way-eventCreate f a b = checks (says-and (in-range 1 f 8) (says-and (says-same (isAttributes a)) (none-of (attribute s f)))) yes mine _ (λ h _.
+  pub way-flagCreate : (f a b : ℕ) → Way s other Entries.none (flagCreate mine f a b (flag s f))
+  unfolding flagCreate
+  way-flagCreate f a b = checks (says-and (in-range 1 f 8) (says-and (says-same (isAttributes a)) (none-of (attribute s f)))) yes mine _ (λ h _.
       done 0 (flags f (a + 1) b (Does.Reflag.creates a b (h .0 .0) (h .0 .1) (h .1 .0) (h .1 .1))))
 
-  pub way-eventDelete : (f : ℕ) → Way s other Entries.none (eventDelete mine f (flag s f))
-  unfolding eventDelete
-  way-eventDelete f = checks (in-range 1 f 8) (some-of (attribute s f)) mine _ (λ h made. done 0 (tells f _ _ _ (flag-exists f h made) Does.Tell.deletes))
+  pub way-flagDelete : (f : ℕ) → Way s other Entries.none (flagDelete mine f (flag s f))
+  unfolding flagDelete
+  way-flagDelete f = checks (in-range 1 f 8) (some-of (attribute s f)) mine _ (λ h made. done 0 (tells f _ _ _ (flag-exists f h made) Does.Tell.deletes))
 
-  pub way-eventSet : (f p : ℕ) → Way s other Entries.none (eventSet mine f p (task s (firstOf (s .waits) (flagRow f))) (flag s f))
-  unfolding eventSet
-  way-eventSet f p = checks (says-and (in-range 1 f 8) (some-of p)) (some-of (attribute s f)) mine _ (λ h made. done 0 (tells f _ _ _ (flag-exists f (h .0) made) (sets _ _)))
+  pub way-flagSet : (f p : ℕ) → Way s other Entries.none (flagSet mine f p (task s (firstOf (s .waits) (flagRow f))) (flag s f))
+  unfolding flagSet
+  way-flagSet f p = checks (says-and (in-range 1 f 8) (some-of p)) (some-of (attribute s f)) mine _ (λ h made. done 0 (tells f _ _ _ (flag-exists f (h .0) made) (sets _ _)))
 
-  pub way-eventClear : (f p : ℕ) → Way s other Entries.none (eventClear mine f p (flag s f))
-  unfolding eventClear
-  way-eventClear f p = checks (says-and (in-range 1 f 8) (some-of p)) (some-of (attribute s f)) mine _ (λ h made.
+  pub way-flagClear : (f p : ℕ) → Way s other Entries.none (flagClear mine f p (flag s f))
+  unfolding flagClear
+  way-flagClear f p = checks (says-and (in-range 1 f 8) (some-of p)) (some-of (attribute s f)) mine _ (λ h made.
       done 0 (flags f (attribute s f) (withoutBits (bitsOf s f) p) (clears p (flag-exists f (h .0) made))))
 
   -- a wait or poll is met at once
@@ -76,15 +76,15 @@ module _ (s : State) (mine : Bool) where
   unfolding taken
   way-taken f made = done (bitsOf s f) (flags f (attribute s f) (bitsLeft (attribute s f) true (bitsOf s f)) (meets made))
 
-  pub way-eventWait : (f p m d : ℕ) → Way s other Entries.none (eventWait mine f p m d (running s) (task s (running s)) (flag s f))
-  unfolding eventWait
-  way-eventWait f p m d =
+  pub way-flagWait : (f p m d : ℕ) → Way s other Entries.none (flagWait mine f p m d (running s) (task s (running s)) (flag s f))
+  unfolding flagWait
+  way-flagWait f p m d =
       checks (says-and (in-range 1 f 8) (says-and (some-of p) (says-and (at-most m 1) (in-range 1 d endless)))) (some-of (attribute s f)) mine _ (λ h made.
       needs (some-of (running s)) _ _ tt (λ runs. needs (says-same (not (isOccupied (flag s f)))) _ _ tt (λ free. picks (says-same (isMet p m (bitsOf s f))) _ _
       (λ _. way-taken f (flag-exists f (h .0) made))
       (λ unmet. pending (waits (onFlag f p m d) runs (asks f p m d (flag-exists f (h .0) made) (h .1 .0) (h .1 .1 .0) (h .1 .1 .1 .0) free (is-false (isMet p m (bitsOf s f)) unmet)))))))
 
-  pub way-eventPoll : (f p m : ℕ) → Way s other Entries.none (eventPoll mine f p m (flag s f))
-  unfolding eventPoll
-  way-eventPoll f p m = checks (says-and (in-range 1 f 8) (says-and (some-of p) (at-most m 1))) (some-of (attribute s f)) mine _ (λ h made.
+  pub way-flagPoll : (f p m : ℕ) → Way s other Entries.none (flagPoll mine f p m (flag s f))
+  unfolding flagPoll
+  way-flagPoll f p m = checks (says-and (in-range 1 f 8) (says-and (some-of p) (at-most m 1))) (some-of (attribute s f)) mine _ (λ h made.
       needs (says-not (says-same (isOccupied (flag s f)))) _ _ tt (λ _. needs (says-same (isMet p m (bitsOf s f))) _ _ tt (λ _. way-taken f (flag-exists f (h .0) made))))

@@ -5,13 +5,13 @@ use mathlib.Core.Bool.{Bool, true, false, not}
 use mathlib.Core.Logic.{⊎-elim}
 use Prim.Native.Nat.{ℕ, _≤_, _<_}
 use native.Mathlib.Omega.{arith}
-use lib.Dec.{T, eqb, leb, ltb}
+use lib.Dec.{T as So, eqb, leb, ltb}
 use Rattle.model.specs.Plan.{within}
 use Rattle.laws.proofs.Number.{same?}
 use Rattle.laws.proofs.Says.{Says, says-as, says-same, says-eq, says-le, says-lt, says-not, says-within}
 
 -- nothing is asked
-pub yes : Says true (T true)
+pub yes : Says true (So true)
 yes = says-same true
 
 pub in-range : (low n top : ℕ) → Says (within low n top) ((low ≤ n) × (n ≤ top))
@@ -39,6 +39,6 @@ none-of n = says-as
 pub positive : {n : ℕ} → (n ≡ 0 → ⊥) → 1 ≤ n
 positive {n} z = omega arith
 
-pub is-false : (b : Bool) → (T b → ⊥) → b ≡ false
+pub is-false : (b : Bool) → (So b → ⊥) → b ≡ false
 is-false true n = absurd (n tt)
 is-false false n = refl

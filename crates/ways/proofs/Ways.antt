@@ -2,40 +2,40 @@
 -- A new service is one line here, and its own tests in Tasks or Objects; a new constructor of Done only if it does something new.
 use mathlib.Core.Bool.{Bool}
 use Prim.Native.Nat.{ℕ}
-use lib.Dec.{T}
+use lib.Dec.{T as So}
 use Rattle.model.specs.declared.State.{State}
 use Rattle.model.specs.declared.Context.{Context}
 use Rattle.model.specs.declared.Call.{Call}
 use Rattle.model.specs.declared.Call.the-variants.{TaskCreate, TaskDelete, TaskActivate, TaskIactivate, TaskExit, TaskTerminate, TaskSuspend, TaskResume, TaskSleep, TaskWakeup, TaskIwakeup, TaskReleaseWait, TaskIreleaseWait, TaskChangePriority}
-use Rattle.model.specs.declared.Call.the-variants.{SysTsliceTicks, TickIntProcessing, SemCreate, SemDelete, SemSignal, SemIsignal, SemAcquire, SemPolling, SemIpolling, Event}
-use Rattle.model.specs.declared.Event as Events
-use Rattle.model.specs.declared.Event.the-variants.{Create, Delete, Set, Iset, Clear, Iclear, Wait, WaitPolling, Iwait}
+use Rattle.model.specs.declared.Call.the-variants.{SysTsliceTicks, TickIntProcessing, SemCreate, SemDelete, SemSignal, SemIsignal, SemAcquire, SemPolling, SemIpolling, OnFlag}
+use Rattle.model.specs.declared.FlagService.{FlagService}
+use Rattle.model.specs.declared.FlagService.the-variants.{Create, Delete, Set, Iset, Clear, Iclear, Wait, WaitPolling, Iwait}
 use Rattle.model.specs.Row.{firstOf}
 use Rattle.model.specs.Flag.{flagRow}
 use Rattle.model.specs.State.{task, semaphore, flag, running}
 use Rattle.model.specs.Code.{number}
 use Rattle.model.specs.Services.{isMine}
-use Rattle.model.specs.Call.{named, eventSubject, subject, eventPlan, plan, planned, step}
+use Rattle.model.specs.Call.{objectOf, flagSubject, subject, flagPlan, plan, planned, step}
 use Rattle.ways.specs.Kind.{other, kind}
 use Rattle.ways.specs.Entry.{none, entry}
 use Rattle.ways.proofs.Done.{Way, oneDigit, digit}
 use Rattle.ways.proofs.Tasks.{way-create, way-delete, way-activate, way-exit, way-terminate, way-suspend, way-resume, way-sleep, way-wakeup, way-releaseWait, way-changePriority, way-tsliceTicks, way-tick}
-use Rattle.ways.proofs.Objects.{way-semCreate, way-semDelete, way-signal, way-acquire, way-polling, way-eventCreate, way-eventDelete, way-eventSet, way-eventClear, way-eventWait, way-eventPoll}
+use Rattle.ways.proofs.Objects.{way-semCreate, way-semDelete, way-signal, way-acquire, way-polling, way-flagCreate, way-flagDelete, way-flagSet, way-flagClear, way-flagWait, way-flagPoll}
 
-way-event : (s : State) (mine : Bool) (f : ℕ) (e : Events.Event) → Way s other none (eventPlan mine f e (running s) (task s (eventSubject e (running s) (firstOf (s .waits) (flagRow f)))) (flag s f))
-unfolding eventPlan
-way-event s mine f (Create a b) = way-eventCreate s mine f a b
-way-event s mine f Delete = way-eventDelete s mine f
-way-event s mine f (Set b) = way-eventSet s mine f b
-way-event s mine f (Iset b) = way-eventSet s mine f b
-way-event s mine f (Clear b) = way-eventClear s mine f b
-way-event s mine f (Iclear b) = way-eventClear s mine f b
-way-event s mine f (Wait p m d) = way-eventWait s mine f p m d
-way-event s mine f (WaitPolling p m) = way-eventPoll s mine f p m
-way-event s mine f (Iwait p m) = way-eventPoll s mine f p m
+way-flag : (s : State) (mine : Bool) (f : ℕ) (e : FlagService) → Way s other none (flagPlan mine f e (running s) (task s (flagSubject e (running s) (firstOf (s .waits) (flagRow f)))) (flag s f))
+unfolding flagPlan
+way-flag s mine f (Create a b) = way-flagCreate s mine f a b
+way-flag s mine f Delete = way-flagDelete s mine f
+way-flag s mine f (Set b) = way-flagSet s mine f b
+way-flag s mine f (Iset b) = way-flagSet s mine f b
+way-flag s mine f (Clear b) = way-flagClear s mine f b
+way-flag s mine f (Iclear b) = way-flagClear s mine f b
+way-flag s mine f (Wait p m d) = way-flagWait s mine f p m d
+way-flag s mine f (WaitPolling p m) = way-flagPoll s mine f p m
+way-flag s mine f (Iwait p m) = way-flagPoll s mine f p m
 
 way-plan : (s : State) (mine : Bool) (a : Call)
-    → Way s (kind a) (entry a) (plan mine a (running s) (task s (subject a (running s) (firstOf (s .waits) (named a)) (firstOf (s .waits) (flagRow (named a))))) (semaphore s (named a)) (flag s (named a)))
+    → Way s (kind a) (entry a) (plan mine a (running s) (task s (subject a (running s) (firstOf (s .waits) (objectOf a)) (firstOf (s .waits) (flagRow (objectOf a))))) (semaphore s (objectOf a)) (flag s (objectOf a)))
 unfolding plan
 way-plan s mine (TaskCreate t p o) = way-create s mine t p o
 way-plan s mine (TaskDelete t) = way-delete s mine t
@@ -60,13 +60,13 @@ way-plan s mine (SemIsignal m) = way-signal s mine m
 way-plan s mine (SemAcquire m d) = way-acquire s mine m d
 way-plan s mine (SemPolling m) = way-polling s mine m
 way-plan s mine (SemIpolling m) = way-polling s mine m
-way-plan s mine (Event f e) = way-event s mine f e
+way-plan s mine (OnFlag f e) = way-flag s mine f e
 
 pub way : (s : State) (c : Context) (a : Call) → Way s (kind a) (entry a) (planned s c a)
 unfolding planned
 way s c a = way-plan s (isMine c a) a
 
 -- the code of an answer has one digit
-pub step-digit : (s : State) (c : Context) (a : Call) → T (oneDigit (number (step s c a .code)))
+pub step-digit : (s : State) (c : Context) (a : Call) → So (oneDigit (number (step s c a .code)))
 unfolding step
 step-digit s c a = digit (way s c a)

@@ -3,7 +3,7 @@
 use Prim.Native.Nat.{ℕ}
 use Rattle.model.specs.declared.Call.{Call}
 use Rattle.model.specs.declared.Call.the-variants.{TaskCreate, TaskDelete, TaskActivate, TaskIactivate, TaskExit, TaskTerminate, TaskSuspend, TaskResume, TaskSleep, TaskWakeup, TaskIwakeup, TaskReleaseWait, TaskIreleaseWait, TaskChangePriority}
-use Rattle.model.specs.declared.Call.the-variants.{SysTsliceTicks, TickIntProcessing, SemCreate, SemDelete, SemSignal, SemIsignal, SemAcquire, SemPolling, SemIpolling, Event}
+use Rattle.model.specs.declared.Call.the-variants.{SysTsliceTicks, TickIntProcessing, SemCreate, SemDelete, SemSignal, SemIsignal, SemAcquire, SemPolling, SemIpolling, OnFlag}
 
 pub data Entry : Type 0 where
   creation : ℕ → ℕ → Entry  -- of a semaphore, with its start value
@@ -34,4 +34,4 @@ entry (SemIsignal m) = release m
 entry (SemAcquire m d) = acquisition m
 entry (SemPolling m) = poll m
 entry (SemIpolling m) = poll m
-entry (Event f e) = none
+entry (OnFlag f e) = none

@@ -4,7 +4,7 @@ use native.Mathlib.Omega.{arith}
 use mir.Syntax.{w64}
 use mir.Facts.{toZ-pos}
 use Prim.Native.Nat.{_<_, _≤_, _^_}
-use Rattle.runner.specs.Outcome.{numberOf, Small}
+use Rattle.runner.specs.Outcome.{signedOf, Small}
 use Rattle.runner.proofs.Signed.{neg-fits, neg-back}
 use borrow.Author.Needs.{needs}
 use Rattle.runner.proofs.number.Statement.{statement}
@@ -41,16 +41,16 @@ enum-told-2 : tie.Need-enum-told-2
 enum-told-2 c = search needs
 
 returns : tie.Need-returns
-returns c = toZ-pos w64 (small1 (c .before)) ∙ ap numberOf (sym (c .before .r .given .1))
+returns c = toZ-pos w64 (small1 (c .before)) ∙ ap signedOf (sym (c .before .r .given .1))
 
 returns-2 : tie.Need-returns-2
-returns-2 c = ap numberOf (sym (c .enum-told .given .1))
+returns-2 c = ap signedOf (sym (c .enum-told .given .1))
 
 returns-3 : tie.Need-returns-3
-returns-3 c = neg-back _ (small3 (c .before)) ∙ ap numberOf (sym (c .before .r2 .given .1))
+returns-3 c = neg-back _ (small3 (c .before)) ∙ ap signedOf (sym (c .before .r2 .given .1))
 
 returns-4 : tie.Need-returns-4
-returns-4 c = ap numberOf (sym (c .enum-told2 .given .1))
+returns-4 c = ap signedOf (sym (c .enum-told2 .given .1))
 
 pub number-spec : {M : Type 1} → statement M
 number-spec =

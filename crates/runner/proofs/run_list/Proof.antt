@@ -3,7 +3,7 @@ use mathlib.Core.Path.{_≡_, ap, sym, _∙_, subst}
 use native.Mathlib.Omega.{arith}
 use Prim.Native.Nat.{_<_, _^_}
 use lib.ListN.{length}
-use Rattle.runner.specs.Outcome.{numberOf, Small, ranOf}
+use Rattle.runner.specs.Outcome.{signedOf, Small, ranOf}
 use Rattle.runner.proofs.Signed.{back}
 use Rattle.runner.proofs.Signed.{small as small-ran}
 use borrow.Author.Needs.{needs}
@@ -28,7 +28,7 @@ same-length c = search needs
 returns : tie.Need-returns
 returns c =
     let r = c .before .before .before in
-    (back (c .number .result) (r .run .result) (small r) (c .number .ensures) ∙ ap numberOf (r .run .ensures .0), r .run .ensures .1)
+    (back (c .number .result) (r .run .result) (small r) (c .number .ensures) ∙ ap signedOf (r .run .ensures .0), r .run .ensures .1)
 
 pub run-list-spec : {M : Type 1} → statement M
 run-list-spec = tie.close (tie.spec run-requires number-requires same-length returns)

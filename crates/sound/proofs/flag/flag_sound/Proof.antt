@@ -7,7 +7,7 @@ use Rattle.sound.proofs.flag.flag_sound.Tie as tie
 
 returns : tie.Need-returns
 unfolding isFlagSound
-returns c = rw (c .are-kept .ensures)
+returns c = rw (c .is-flag-attributes .ensures)
 
 pub flag-sound-spec : {M : Type 1} → statement M
 flag-sound-spec = tie.close (tie.spec (λ c κs. search needs) returns)

@@ -27,17 +27,17 @@ loop-holds c = (omega arith, omega arith, left-all _)
 shared-slice-read-b : tie.Need-shared-slice-read-b Inv-loop μ-loop
 shared-slice-read-b c = search needs
 
-ended-requires : tie.Need-ended-requires Inv-loop μ-loop
-ended-requires c κs = search needs
+numeral-requires : tie.Need-numeral-requires Inv-loop μ-loop
+numeral-requires c κs = search needs
 
 returns-2 : tie.Need-returns-2 Inv-loop μ-loop
-returns-2 c = c .ended .ensures ∙ left-stop _ _ _ (c .before .before .before .before .loop .inv .2) (c .before .before .before .before .loop .inv .1) (c .before .before .before .loop-test .taken) (digit-low _ (c .before .if2 .taken))
+returns-2 c = c .numeral .ensures ∙ left-stop _ _ _ (c .before .before .before .before .loop .inv .2) (c .before .before .before .before .loop .inv .1) (c .before .before .before .loop-test .taken) (digit-low _ (c .before .if2 .taken))
 
-ended-requires-2 : tie.Need-ended-requires-2 Inv-loop μ-loop
-ended-requires-2 c κs = search needs
+numeral-requires-2 : tie.Need-numeral-requires-2 Inv-loop μ-loop
+numeral-requires-2 c κs = search needs
 
 returns-3 : tie.Need-returns-3 Inv-loop μ-loop
-returns-3 c = c .ended2 .ensures ∙ left-stop _ _ _ (c .before .before .before .before .before .loop .inv .2) (c .before .before .before .before .before .loop .inv .1) (c .before .before .before .before .loop-test .taken) (digit-high _ (c .before .if3 .taken))
+returns-3 c = c .numeral2 .ensures ∙ left-stop _ _ _ (c .before .before .before .before .before .loop .inv .2) (c .before .before .before .before .before .loop .inv .1) (c .before .before .before .before .loop-test .taken) (digit-high _ (c .before .if3 .taken))
 
 cast-more : tie.Need-cast-more Inv-loop μ-loop
 cast-more c = search needs
@@ -66,11 +66,11 @@ loop-less c = search needs
 loop-again : tie.Need-loop-again Inv-loop μ-loop
 loop-again c = (omega arith, omega (arith, c .if4 .left), left-on _ _ _ (c .before .before .before .before .before .loop .inv .2) (c .before .before .before .before .loop-test .taken) (digit-in _ (c .before .before .if2 .left) (c .before .if3 .left)))
 
-ended-requires-3 : tie.Need-ended-requires-3 Inv-loop μ-loop
-ended-requires-3 c κs = search needs
+numeral-requires-3 : tie.Need-numeral-requires-3 Inv-loop μ-loop
+numeral-requires-3 c κs = search needs
 
 returns-5 : tie.Need-returns-5 Inv-loop μ-loop
-returns-5 c = c .ended3 .ensures ∙ left-end _ _ _ (c .before .before .loop .inv .2) (c .before .before .loop .inv .1) (c .before .loop-test .left)
+returns-5 c = c .numeral3 .ensures ∙ left-end _ _ _ (c .before .before .loop .inv .2) (c .before .before .loop .inv .1) (c .before .loop-test .left)
 
 pub read-number-spec : {M : Type 1} → statement M
 read-number-spec =
@@ -82,9 +82,9 @@ read-number-spec =
     shared-slice-read-first
     loop-holds
     shared-slice-read-b
-    ended-requires
+    numeral-requires
     returns-2
-    ended-requires-2
+    numeral-requires-2
     returns-3
     cast-more
     mul-more
@@ -95,5 +95,5 @@ read-number-spec =
     add-i
     loop-less
     loop-again
-    ended-requires-3
+    numeral-requires-3
     returns-5)

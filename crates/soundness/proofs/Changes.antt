@@ -1,0 +1,225 @@
+-- Each change of model/specs/State keeps a sound state sound: a task moved, a semaphore counted, a flag set, a level sliced, charged or turned, the time.
+-- It rests on the tables' laws in Listed; what a change asks for is a condition on the numbers it stores.
+use mathlib.Core.Path.{_≡_, refl, sym, ap, _∙_, subst}
+use mathlib.Core.List.{List}
+use mathlib.Core.Logic.{_⊎_, inl, inr, ⊎-elim}
+use mathlib.Core.Bool.{false}
+use Prim.Native.Nat.{ℕ, _+_, _≤_, _<_}
+use native.Mathlib.Omega.{arith}
+use lib.Dec.{T as So}
+use lib.ListN.{length, getD, set, length-set, List·getD-eq-default}
+use lib.Seq.{getD-set-same, getD-set-other, set-out, set-getD}
+use Rattle.model.specs.declared.Task.{Task}
+use Rattle.model.specs.declared.Numbers.{Numbers}
+use Rattle.model.specs.declared.State.{State}
+use Rattle.model.specs.Flag.{isFlagAttributes, isSingle, isMet}
+use Rattle.model.specs.Task.{noTask, levelOf, rowOf}
+use Rattle.model.specs.State.{task, slice, count, maximum, attribute, bitsOf, moved, counted, flagged, sliced, withCharge, rotated, withTime}
+use Rattle.model.specs.Sound.{SoundTask, SoundLevels, SoundSemaphores, SoundFlags, Sound}
+use Rattle.laws.proofs.Number.{same?, below?}
+use Rattle.soundness.proofs.Listed.{lists-relisted, lists-turned}
+use Rattle.soundness.proofs.Moved.{task-moved, task-kept}
+
+-- ---- what is read after a store
+-- what holds of the values stored in two tables of one length, and of the old ones, holds of what is read
+stored-both : (P : ℕ → ℕ → Type 0) (xs ys : List ℕ) (i a b j : ℕ) → length xs ≡ length ys → (j ≡ i → P a b) → P (getD xs j 0) (getD ys j 0)
+    → P (getD (set xs i a) j 0) (getD (set ys i b) j 0)
+stored-both P xs ys i a b j long here else = go (same? j i) (below? i (length xs))
+  where
+    go : (j ≡ i) ⊎ (j ≡ i → ⊥) → (i < length xs) ⊎ (length xs ≤ i) → P (getD (set xs i a) j 0) (getD (set ys i b) j 0)
+    go (inl e) (inl h) = rw (e, getD-set-same xs i a 0 h, getD-set-same ys i b 0 (omega arith)) (here e)
+    go (inl e) (inr h) = rw (set-out xs i a h, set-out ys i b (omega arith)) else
+    go (inr other) h = rw (getD-set-other xs i j a 0 other, getD-set-other ys i j b 0 other) else
+
+stored : (P : ℕ → Type 0) (xs : List ℕ) (i a j : ℕ) → (j ≡ i → P a) → P (getD xs j 0) → P (getD (set xs i a) j 0)
+stored P xs i a j here else = stored-both (λ x y. P x) xs xs i a a j refl here else
+
+-- ---- who has a key is one of the tasks
+pub no-task : (s : State) → Sound s → (t : ℕ) → 24 < t → task s t ≡ noTask
+no-task s k t h = List·getD-eq-default (s .tasks) noTask (omega (arith, k .tasks#))
+
+pub task-in : (key : Task → ℕ) → key noTask ≡ 0 → (s : State) → Sound s → (t : ℕ) → 1 ≤ key (task s t) → (1 ≤ t) × (t ≤ 24)
+task-in key z s k t h =
+    let low : t ≡ 0 → ⊥ = λ e. omega (arith, ap (λ u. key (task s u)) e ∙ ap key (k .nobody) ∙ z) in
+    let top : 24 < t → ⊥ = λ out. omega (arith, ap key (no-task s k t out) ∙ z) in
+    (omega arith, omega arith)
+
+-- ---- a task moves
+-- task t with record x may wait as that says: on a created semaphore with count 0, or on a created flag whose bits do not meet x,
+-- on SINGLE alone
+pub record MayWait (s : State) (t : ℕ) (x : Task) : Type 0 where
+  pub waited : (m : ℕ) → 1 ≤ m → m ≤ 12 → rowOf x ≡ m → (count s m ≡ 0) × (1 ≤ maximum s m)
+  pub unmet : (f : ℕ) → 1 ≤ f → f ≤ 8 → rowOf x ≡ f + 12 → (1 ≤ attribute s f) × (isMet (x .wait .pattern) (x .wait .mode) (bitsOf s f) ≡ false)
+  pub single : (f u : ℕ) → 1 ≤ f → f ≤ 8 → So (isSingle (attribute s f)) → rowOf x ≡ f + 12 → rowOf (task s u) ≡ f + 12 → u ≡ t
+
+module _ (s : State) (k : Sound s) (t : ℕ) (x : Task) (some : 1 ≤ t) (top : t ≤ 24) where
+  now : task (moved t x s) t ≡ x
+  now = task-moved s t x (omega (arith, k .tasks#))
+
+  kept : (u : ℕ) → (u ≡ t → ⊥) → task (moved t x s) u ≡ task s u
+  kept u other = task-kept s t x u (λ e. other (sym e))
+
+  -- what holds of its new record, and of the others', holds of each
+  pub task-cases : (P : Task → Type 0) (u : ℕ) → (u ≡ t → P x) → ((u ≡ t → ⊥) → P (task s u)) → P (task (moved t x s) u)
+  task-cases P u here else = ⊎-elim
+      (λ (e : u ≡ t). subst P (sym (ap (task (moved t x s)) e ∙ now)) (here e))
+      (λ (other : u ≡ t → ⊥). subst P (sym (kept u other)) (else other))
+      (same? u t)
+
+  module _ (sound : SoundTask x) (may : MayWait s t x) where
+    pub sound-moved : Sound (moved t x s)
+    unfolding moved levelOf rowOf
+    sound-moved = record {
+      tasks# = length-set (s .tasks) t x ∙ k .tasks#;
+      nobody = kept 0 (λ e. omega arith) ∙ k .nobody;
+      tasks = λ u. task-cases SoundTask u (λ e. sound) (λ other. k .tasks u);
+      levels = lists-relisted (s .levels) 31 (λ u. levelOf (task s u)) (k .levels) t (levelOf x) some top (λ u h. ap levelOf (no-task s k u h))
+          (λ u. levelOf (task (moved t x s) u)) (ap levelOf now) (λ u other. ap levelOf (kept u other));
+      waits = lists-relisted (s .waits) 21 (λ u. rowOf (task s u)) (k .waits) t (rowOf x) some top (λ u h. ap rowOf (no-task s k u h))
+          (λ u. rowOf (task (moved t x s) u)) (ap rowOf now) (λ u other. ap rowOf (kept u other));
+      rates = k .rates;
+      semaphores = record {
+        counts# = a .counts#;
+        maxima# = a .maxima#;
+        unused = a .unused;
+        counts = a .counts;
+        maxima = a .maxima;
+        waited = λ m u low top. task-cases (λ y. rowOf y ≡ m → (count s m ≡ 0) × (1 ≤ maximum s m)) u (λ e. may .waited m low top) (λ other. a .waited m u low top);
+      };
+      flags = record {
+        attributes# = b .attributes#;
+        bits# = b .bits#;
+        unused = b .unused;
+        attributes = b .attributes;
+        bits = b .bits;
+        unmet = λ f u low top. task-cases (λ y. rowOf y ≡ f + 12 → (1 ≤ attribute s f) × (isMet (y .wait .pattern) (y .wait .mode) (bitsOf s f) ≡ false)) u (λ e. may .unmet f low top) (λ other. b .unmet f u low top);
+        single = λ f u v low top one. task-cases (λ y. rowOf y ≡ f + 12 → rowOf (task (moved t x s) v) ≡ f + 12 → u ≡ v) u
+            (λ e here. task-cases (λ y. rowOf y ≡ f + 12 → u ≡ v) v (λ z _. e ∙ sym z) (λ _ there. e ∙ sym (may .single f v low top one here there)))
+            (λ other there. task-cases (λ y. rowOf y ≡ f + 12 → u ≡ v) v (λ z here. may .single f u low top one here there ∙ sym z) (λ _ here. b .single f u v low top one there here));
+      };
+    }
+      where
+        a : SoundSemaphores (s .tasks) (s .numbers .counts) (s .numbers .maxima)
+        a = k .semaphores
+
+        b : SoundFlags (s .tasks) (s .numbers .attributes) (s .numbers .bits)
+        b = k .flags
+
+-- ---- other numbers, which are sound by themselves
+renumbered : (s : State) (n : Numbers) → Sound s → SoundLevels (n .slices) (n .charges) → SoundSemaphores (s .tasks) (n .counts) (n .maxima)
+    → SoundFlags (s .tasks) (n .attributes) (n .bits) → Sound (record { tasks = s .tasks; levels = s .levels; waits = s .waits; numbers = n })
+renumbered s n k rates semaphores flags = record {
+  tasks# = k .tasks#;
+  nobody = k .nobody;
+  tasks = k .tasks;
+  levels = k .levels;
+  waits = k .waits;
+  rates = rates;
+  semaphores = semaphores;
+  flags = flags;
+}
+
+-- ---- a semaphore's numbers
+pub sound-counted : (s : State) (m n v : ℕ) → Sound s → 1 ≤ m → n ≤ v → v ≤ 65535 → ((t : ℕ) → rowOf (task s t) ≡ m → (n ≡ 0) × (1 ≤ v)) → Sound (counted m n v s)
+unfolding counted
+sound-counted s m n v k some low top free = renumbered s (counted m n v s .numbers) k (k .rates) (record {
+  counts# = length-set ns m n ∙ a .counts#;
+  maxima# = length-set vs m v ∙ a .maxima#;
+  unused = (stored (λ b. b ≡ 0) ns m n 0 (λ e. absurd (omega arith)) (a .unused .0), stored (λ b. b ≡ 0) vs m v 0 (λ e. absurd (omega arith)) (a .unused .1));
+  counts = λ i. stored-both (λ a b. a ≤ b) ns vs m n v i same (λ e. low) (a .counts i);
+  maxima = λ i. stored (λ b. b ≤ 65535) vs m v i (λ e. top) (a .maxima i);
+  waited = λ i t h most e. stored-both (λ a b. (a ≡ 0) × (1 ≤ b)) ns vs m n v i same (λ z. free t (e ∙ z)) (a .waited i t h most e);
+}) (k .flags)
+  where
+    ns : List ℕ
+    ns = s .numbers .counts
+
+    vs : List ℕ
+    vs = s .numbers .maxima
+
+    a : SoundSemaphores (s .tasks) ns vs
+    a = k .semaphores
+
+    same : length ns ≡ length vs
+    same = a .counts# ∙ sym (a .maxima#)
+
+-- ---- a flag's numbers
+-- attributes a and bits b fit those who wait on flag f
+pub record FlagFits (s : State) (f a b : ℕ) : Type 0 where
+  pub attributes : So (isFlagAttributes a)
+  pub none : a ≡ 0 → b ≡ 0
+  pub unmet : (t : ℕ) → rowOf (task s t) ≡ f + 12 → (1 ≤ a) × (isMet (task s t .wait .pattern) (task s t .wait .mode) b ≡ false)
+  pub single : So (isSingle a) → (t u : ℕ) → rowOf (task s t) ≡ f + 12 → rowOf (task s u) ≡ f + 12 → t ≡ u
+
+pub sound-flagged : (s : State) (f a b : ℕ) → Sound s → 1 ≤ f → FlagFits s f a b → Sound (flagged f a b s)
+unfolding flagged
+sound-flagged s f a b k some fits = renumbered s (flagged f a b s .numbers) k (k .rates) (k .semaphores) (record {
+  attributes# = length-set es f a ∙ g .attributes#;
+  bits# = length-set bs f b ∙ g .bits#;
+  unused = (stored (λ c. c ≡ 0) es f a 0 (λ e. absurd (omega arith)) (g .unused .0), stored (λ c. c ≡ 0) bs f b 0 (λ e. absurd (omega arith)) (g .unused .1));
+  attributes = λ i. stored (λ c. So (isFlagAttributes c)) es f a i (λ e. fits .attributes) (g .attributes i);
+  bits = λ i. stored-both (λ c d. c ≡ 0 → d ≡ 0) es bs f a b i same (λ e. fits .none) (g .bits i);
+  unmet = λ i t low top e. stored-both (λ c d. (1 ≤ c) × (isMet (task s t .wait .pattern) (task s t .wait .mode) d ≡ false)) es bs f a b i same
+      (λ z. fits .unmet t (e ∙ ap (λ n. n + 12) z)) (g .unmet i t low top e);
+  single = λ i t u low top. stored (λ c. So (isSingle c) → rowOf (task s t) ≡ i + 12 → rowOf (task s u) ≡ i + 12 → t ≡ u) es f a i
+      (λ z one d e. fits .single one t u (d ∙ ap (λ n. n + 12) z) (e ∙ ap (λ n. n + 12) z)) (g .single i t u low top);
+})
+  where
+    es : List ℕ
+    es = s .numbers .attributes
+
+    bs : List ℕ
+    bs = s .numbers .bits
+
+    g : SoundFlags (s .tasks) es bs
+    g = k .flags
+
+    same : length es ≡ length bs
+    same = g .attributes# ∙ sym (g .bits#)
+
+-- ---- a level's slice and charge
+-- slices vs with v and charges ns with n at place l
+rated : (vs ns : List ℕ) (l v n : ℕ) → SoundLevels vs ns → 1 ≤ l → v ≤ 1000 → (n < v) ⊎ ((v ≡ 0) × (n ≡ 0)) → SoundLevels (set vs l v) (set ns l n)
+rated vs ns l v n k some top low = record {
+  slices# = length-set vs l v ∙ k .slices#;
+  charges# = length-set ns l n ∙ k .charges#;
+  unused = (stored (λ a. a ≡ 0) vs l v 0 (λ e. absurd (omega arith)) (k .unused .0), stored (λ a. a ≡ 0) ns l n 0 (λ e. absurd (omega arith)) (k .unused .1));
+  slices = λ i. stored (λ b. b ≤ 1000) vs l v i (λ e. top) (k .slices i);
+  charges = λ i. stored-both (λ a b. (b < a) ⊎ ((a ≡ 0) × (b ≡ 0))) vs ns l v n i (k .slices# ∙ sym (k .charges#)) (λ e. low) (k .charges i);
+}
+
+pub sound-sliced : (s : State) (l v : ℕ) → Sound s → 1 ≤ l → v ≤ 1000 → Sound (sliced l v s)
+unfolding sliced
+sound-sliced s l v k some top = renumbered s (sliced l v s .numbers) k (rated (s .numbers .slices) (s .numbers .charges) l v 0 (k .rates) some top cleared) (k .semaphores) (k .flags)
+  where
+    cleared : (0 < v) ⊎ ((v ≡ 0) × (_≡_ {A = ℕ} 0 0))
+    cleared = ⊎-elim (λ (h : 0 < v). inl h) (λ (h : v ≤ 0). inr (omega arith, refl)) (below? 0 v)
+
+pub sound-withCharge : (s : State) (l n : ℕ) → Sound s → n < slice s l → Sound (withCharge l n s)
+sound-withCharge s l n k low = renumbered s (withCharge l n s .numbers) k charged (k .semaphores) (k .flags)
+  where
+    vs : List ℕ
+    vs = s .numbers .slices
+
+    some : 1 ≤ l
+    some = let n : l ≡ 0 → ⊥ = λ e. let none : slice s l ≡ 0 = rw e (k .rates .unused .0) in omega arith in omega arith
+
+    charged : SoundLevels vs (set (s .numbers .charges) l n)
+    charged = rw (set-getD vs l 0) at (rated vs (s .numbers .charges) l (slice s l) n (k .rates) some (k .rates .slices l) (inl low))
+
+pub sound-withTime : (s : State) (n : ℕ) → Sound s → Sound (withTime n s)
+sound-withTime s n k = renumbered s (withTime n s .numbers) k (k .rates) (k .semaphores) (k .flags)
+
+-- ---- a level's first becomes its last
+pub sound-rotated : (s : State) (l : ℕ) → Sound s → Sound (rotated l s)
+unfolding rotated
+sound-rotated s l k = record {
+  tasks# = k .tasks#;
+  nobody = k .nobody;
+  tasks = k .tasks;
+  levels = lists-turned (s .levels) 31 (λ t. levelOf (task s t)) l (k .levels);
+  waits = k .waits;
+  rates = k .rates;
+  semaphores = k .semaphores;
+  flags = k .flags;
+}

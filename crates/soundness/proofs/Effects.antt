@@ -1,0 +1,114 @@
+-- A task that stops, a semaphore that is deleted, a flag whose waiters are told and a tick leave a sound state sound.
+-- It rests on the changes of Changes, the records of Records and the queues of Told; the tick goes by induction over the tasks it moves.
+use mathlib.Core.Path.{_≡_, refl}
+use mathlib.Core.Bool.{Bool, true, false, cond}
+use mathlib.Core.Logic.{⊎-elim}
+use Prim.Native.Nat.{ℕ, zero, suc, _+_, _≤_, _%_, _^_}
+use native.Mathlib.Omega.{arith}
+use lib.Dec.{T as So, eqb, ltb}
+use borrow.Author.Tests.{eqb-false, ltb-true}
+use Rattle.model.specs.declared.Task.{Task}
+use Rattle.model.specs.declared.State.{State}
+use Rattle.model.specs.declared.News.{News}
+use Rattle.model.specs.declared.News.the-variants.{Deleted}
+use Rattle.model.specs.Flag.{isFlagAttributes, isSingle, isMet}
+use Rattle.model.specs.Task.{dormant, activated, aged, rowOf}
+use Rattle.model.specs.State.{task, slice, charge, attribute, time, waiters, running, moved, withCharge, rotated, withTime}
+use Rattle.model.specs.Effect.{stopped, toldAll, deleted, toldFlag, chargedLevel, charged, lapsed, ticked}
+use Rattle.model.specs.Sound.{SoundTask, Sound}
+use Rattle.laws.proofs.Record.{flag-row}
+use Rattle.soundness.proofs.Changes.{sound-moved, sound-counted, sound-flagged, sound-withCharge, sound-rotated, sound-withTime}
+use Rattle.soundness.proofs.Records.{Stays, sound-dormant, sound-activated, sound-aged, aged-row}
+use Rattle.soundness.proofs.Moved.{numbers-told}
+use Rattle.soundness.proofs.Told.{may-none, may-same, waiter-in, Told, told-row}
+
+-- attributes a and bits b fit flag f once those who wait on it were told w
+pub record Tellable (s : State) (f : ℕ) (w : News) (a b : ℕ) : Type 0 where
+  pub attributes : So (isFlagAttributes a)
+  pub none : a ≡ 0 → b ≡ 0
+  pub unmet : (x : Task) → SoundTask x → rowOf x ≡ f + 12 → Stays w x → (1 ≤ a) × (isMet (x .wait .pattern) (x .wait .mode) b ≡ false)
+  pub single : So (isSingle a) → So (isSingle (attribute s f))
+
+-- ---- a task stops
+pub sound-stopped : (s : State) → Sound s → (t : ℕ) → 1 ≤ t → t ≤ 24 → 1 ≤ task s t .base → Sound (stopped t s)
+unfolding stopped rowOf
+sound-stopped s k t some top made = go (eqb (task s t .activations) 0)
+  where
+    p : ℕ
+    p = task s t .base
+
+    rests : SoundTask (dormant p)
+    rests = sound-dormant p made (k .tasks t .base)
+
+    s₁ : State
+    s₁ = moved t (dormant p) s
+
+    k₁ : Sound s₁
+    k₁ = sound-moved s k t (dormant p) some top rests (may-none s t (dormant p) refl)
+
+    go : (b : Bool) → Sound (cond b s₁ (moved t (activated (dormant p)) s₁))
+    go true = k₁
+    go false = sound-moved s₁ k₁ t (activated (dormant p)) some top (sound-activated (dormant p) rests made) (may-none s₁ t (activated (dormant p)) refl)
+
+-- ---- a semaphore is deleted, or a flag's waiters are told
+pub sound-deleted : (s : State) → Sound s → (m : ℕ) → 1 ≤ m → m ≤ 12 → Sound (deleted m s)
+unfolding deleted
+sound-deleted s k m some top = sound-counted (toldAll Deleted (waiters s m) s) m 0 0 (z .sound) some (omega arith) (omega arith) (λ t e. absurd (nobody t e))
+  where
+    z : Told Deleted m (toldAll Deleted (waiters s m) s)
+    z = told-row Deleted s k m some (omega arith)
+
+    nobody : (t : ℕ) → rowOf (task (toldAll Deleted (waiters s m) s) t) ≡ m → ⊥
+    nobody t e = z .stays t (waiter-in (toldAll Deleted (waiters s m) s) (z .sound) t (omega arith) .0) e
+
+pub sound-toldFlag : (s : State) → Sound s → (f : ℕ) (w : News) (a b : ℕ) → 1 ≤ f → f ≤ 8 → Tellable s f w a b → Sound (toldFlag f w a b s)
+unfolding toldFlag
+sound-toldFlag s k f w a b low top fits = rw (flag-row f low top) (sound-flagged s′ f a b (z .sound) low (record {
+  attributes = fits .attributes;
+  none = fits .none;
+  unmet = λ t e. fits .unmet (task s′ t) (z .sound .tasks t) e (z .stays t (waiter-in s′ (z .sound) t (omega arith) .0) e);
+  single = λ one t u. z .sound .flags .single f t u low top (rw (numbers-told w (waiters s (f + 12)) s) (fits .single one));
+}))
+  where
+    s′ : State
+    s′ = toldAll w (waiters s (f + 12)) s
+
+    z : Told w (f + 12) s′
+    z = told-row w s k (f + 12) (omega arith) (omega arith)
+
+-- ---- a tick passes
+sound-chargedLevel : (s : State) → Sound s → (l : ℕ) → Sound (chargedLevel l s)
+unfolding chargedLevel
+sound-chargedLevel s k l = go (eqb (slice s l) 0) (ltb (charge s l + 1) (slice s l)) refl refl
+  where
+    go : (a b : Bool) → eqb (slice s l) 0 ≡ a → ltb (charge s l + 1) (slice s l) ≡ b
+        → Sound (cond a s (cond b (withCharge l (charge s l + 1) s) (rotated l (withCharge l 0 s))))
+    go true b e f = k
+    go false true e f = sound-withCharge s l (charge s l + 1) k (ltb-true (charge s l + 1) (slice s l) f)
+    go false false e f =
+        let some : slice s l ≡ 0 → ⊥ = eqb-false (slice s l) 0 e in
+        sound-rotated (withCharge l 0 s) l (sound-withCharge s l 0 k (omega arith))
+
+sound-charged : (s : State) → Sound s → (run : ℕ) → Sound (charged run s)
+unfolding charged
+sound-charged s k run = go (eqb run 0)
+  where
+    go : (b : Bool) → Sound (cond b s (chargedLevel (task s run .priority) s))
+    go true = k
+    go false = sound-chargedLevel s k (task s run .priority)
+
+sound-lapsed : (n t : ℕ) (s : State) → Sound s → 1 ≤ t → n + t ≤ 25 → Sound (lapsed n t s)
+unfolding lapsed
+sound-lapsed zero t s k some top = k
+sound-lapsed (suc n) t s k some top =
+    sound-lapsed n (suc t) (moved t (aged (task s t)) s)
+    (sound-moved s k t (aged (task s t)) some (omega arith) (sound-aged (task s t) (k .tasks t))
+    (⊎-elim (may-none s t (aged (task s t))) (may-same s k t (aged (task s t))) (aged-row (task s t))))
+    (omega arith) (omega arith)
+
+pub sound-ticked : (s : State) → Sound s → Sound (ticked s)
+unfolding ticked
+sound-ticked s k =
+    sound-lapsed 24 1 (charged (running s) (withTime ((time s + 1) % 2 ^ 32) s))
+    (sound-charged (withTime ((time s + 1) % 2 ^ 32) s) (sound-withTime s ((time s + 1) % 2 ^ 32) k) (running s))
+    (omega arith) (omega arith)

@@ -1,0 +1,11 @@
+pub mod Listed
+pub mod Moved
+pub mod Changes
+pub mod Records
+pub mod Told
+pub mod Effects
+pub mod Running
+pub mod Changed
+pub mod Accepted
+pub mod Fresh
+pub mod Soundness
