@@ -7,6 +7,8 @@ use Rattle.model.specs.declared.State.{State}
 use Rattle.model.specs.declared.Answer.{Answer}
 use Rattle.model.specs.declared.Context.{Context}
 use Rattle.model.specs.declared.Context.the-variants.{T, I}
+use Rattle.model.specs.declared.Call.{Call}
+use Rattle.model.specs.declared.Call.the-variants.{TaskDelete}
 use Rattle.model.specs.declared.Code.the-variants.{WrongParam, Unsound}
 use Rattle.model.specs.Code.{number}
 use Rattle.model.specs.State.{running}
@@ -30,6 +32,16 @@ unfoldable pub answered : State → From → Asked → Answer
 answered s Nowhere q = unknown s
 answered s (Known c) Nothing = unknown s
 answered s (Known c) (Named a) = Calls.call s c a
+
+-- the context and the call that stand for the numbers: where they name nothing, a call that every sound state refuses for its numbers
+abbrev pub placeOf : From → Context
+placeOf (Known c) = c
+placeOf Nowhere = T
+
+abbrev pub meant : From → Asked → Call
+meant Nowhere q = TaskDelete 0
+meant (Known c) Nothing = TaskDelete 0
+meant (Known c) (Named a) = a
 
 -- in the paper's numbers
 abbrev pub replyOf : Answer → Reply

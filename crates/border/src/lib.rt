@@ -2,8 +2,8 @@
 // A number that names nothing is WRONG_PARAM; a number that the service does not take is not looked at. Rests on services and the kernel.
 ghost use mathlib.Core.Path.{_≡_};
 ghost use Rattle.model.specs.Code.{number};
-ghost use Rattle.border.specs.Border.{contextOf, answered, unknown, replyOf, reply};
-use model::Answer;
+ghost use Rattle.border.specs.Border.{contextOf, placeOf, meant, reply};
+use model::Call;
 use model::Code;
 use model::Context;
 use model::State;
@@ -53,54 +53,39 @@ fn code_number(code: Code) -> i32
     }
 }
 
-fn reply_of(r: Answer) -> Reply
-    ensures { λ q. ⌜ q ≡ replyOf r ⌝ }
+// The context, and the call, that numbers ask for. Where they name nothing, it is a call that every sound state refuses for its numbers.
+fn place_of(from: From) -> Context
+    ensures { λ r. ⌜ r ≡ placeOf from ⌝ }
 {
-    let code = r.code;
-    let s = r.state;
-    Reply {
-        code: code_number(code),
-        running: r.running as u32,
-        value: r.value,
-        state: s,
+    match from {
+        From::Known(context) => context,
+        From::Nowhere => Context::T,
     }
 }
 
-// A call that names no context or no service.
-fn unknown(s: State) -> Answer
-    ensures { λ r. ⌜ r ≡ unknown s ⌝ }
+fn meant(from: From, asked: Asked) -> Call
+    ensures { λ r. ⌜ r ≡ meant from asked ⌝ }
 {
-    let sound = sound::is_sound(s);
-    if sound {
-        return Answer {
-            code: Code::WrongParam,
-            running: kernel::running(s),
-            value: 0,
-            state: s,
-        };
-    }
-    Answer {
-        code: Code::Unsound,
-        running: 0,
-        value: 0,
-        state: s,
-    }
-}
-
-fn answered(s: State, from: From, asked: Asked) -> Answer
-    ensures { λ r. ⌜ r ≡ answered s from asked ⌝ }
-{
-    let From::Known(context) = from else {
-        return unknown(s);
+    let From::Known(_context) = from else {
+        return Call::TaskDelete { task: 0 };
     };
     let Asked::Named(call) = asked else {
-        return unknown(s);
+        return Call::TaskDelete { task: 0 };
     };
-    kernel::call(s, context, call)
+    call
 }
 
 pub fn call_by_number(s: State, context: u32, service: u32, a: u32, b: u32, c: u32, d: u32) -> Reply
     ensures { λ r. ⌜ r ≡ reply s context service a b c d ⌝ }
 {
-    reply_of(answered(s, context_of(context), call_of(service, a, b, c, d)))
+    let from = context_of(context);
+    let r = kernel::call(s, place_of(from), meant(from, call_of(service, a, b, c, d)));
+    let code = r.code;
+    let state = r.state;
+    Reply {
+        code: code_number(code),
+        running: r.running as u32,
+        value: r.value,
+        state,
+    }
 }

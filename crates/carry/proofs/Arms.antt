@@ -16,7 +16,7 @@ use Rattle.model.specs.declared.Effect.the-variants.{Nothing, Moves, Stops, Cou
 use Rattle.model.specs.Flag.{flagRow}
 use Rattle.model.specs.Task.{dormant, activated}
 use Rattle.model.specs.State.{task, time, waiters, moved, movedFrom, counted, flagged, sliced, noted, ofSlices, ofCharges, ofCounts, ofMaxima, ofAttributes, ofBits, ofTime}
-use Rattle.model.specs.Effect.{stopped, deleted, toldFlag, toldAll, charged, chargedLevel, lapsed, carriedFrom}
+use Rattle.model.specs.Effect.{stopped, deleted, toldFlag, toldAll, charged, chargedLevel, lapsed, tickedFrom, carriedFrom}
 
 -- a state with other numbers
 abbrev with : State → Numbers → State
@@ -46,6 +46,10 @@ module _ (run : ℕ) (s : State) where
   unfolding charged
   runs s₁ k z e f = rw (ne-eqb _ _ z, ← e) f
 
+-- ---- a tick
+pub ticked : (run : ℕ) (s : State) (n : ℕ) (x : Numbers) (s₂ s₃ : State) → n ≡ (time s + 1) % 2 ^ 32 → x ≡ noted ofTime 0 n (s .numbers) → s₂ ≡ charged run (with s x) → s₃ ≡ lapsed 24 1 s₂ → s₃ ≡ tickedFrom run s
+ticked run s n x s₂ s₃ d a g h = rw (h, g, a, d)
+
 -- ---- the arms
 module _ (run : ℕ) (e : Effect) (s : State) where
   pub nothing : e ≡ Nothing → s ≡ carriedFrom run s e
@@ -69,8 +73,8 @@ module _ (run : ℕ) (e : Effect) (s : State) where
   unfolding flagged
   flags f a b x y g h i = rw (g, i, h)
 
-  pub ticks : (n : ℕ) (x : Numbers) (s₂ s₃ : State) → e ≡ Ticks → n ≡ (time s + 1) % 2 ^ 32 → x ≡ noted ofTime 0 n (s .numbers) → s₂ ≡ charged run (with s x) → s₃ ≡ lapsed 24 1 s₂ → s₃ ≡ carriedFrom run s e
-  ticks n x s₂ s₃ f d a g h = rw (f, h, g, a, d)
+  pub ticks : (s₁ : State) → e ≡ Ticks → s₁ ≡ tickedFrom run s → s₁ ≡ carriedFrom run s e
+  ticks s₁ f m = rw f m
 
   -- after the news: the state that it left
   module _ (q : List ℕ) (w : News) (s₁ : State) (x y : Numbers) (h : s₁ ≡ toldAll w q s) where

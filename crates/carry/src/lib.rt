@@ -1,7 +1,7 @@
 // An effect carried out on the five tables, changed where they lie.
 // Every arm is a definition of model/specs/Effect, for every value; who runs is told, so that nobody looks twice.
 ghost use mathlib.Core.Path.{_≡_};
-ghost use Rattle.model.specs.Effect.{stopped, charged, carriedFrom};
+ghost use Rattle.model.specs.Effect.{stopped, charged, tickedFrom, carriedFrom};
 ghost use Rattle.tables.specs.Lent.{before, after};
 use effects::move_from;
 use effects::move_task;
@@ -51,6 +51,23 @@ fn charge_running(
     effects::charge(bytes, words, levels, waits, numbers, level);
 }
 
+// ---- a tick, where `run` runs: time goes up by one, the level of who runs is charged, the timeouts fall
+pub fn tick(
+    bytes: &mut [u8; 250],
+    words: &mut [u32; 75],
+    levels: &mut [u8; 744],
+    waits: &mut [u8; 504],
+    numbers: &mut [u32; 107],
+    run: u8,
+)
+    ensures { λ r. ⌜ after bytes words levels waits numbers ≡ tickedFrom run (before bytes words levels waits numbers) ⌝ }
+{
+    let time = numbers::time_in(numbers);
+    numbers::put_time(numbers, std::num::wrapping_add_u32(time, 1));
+    charge_running(bytes, words, levels, waits, numbers, run);
+    effects::lapse(bytes, words, levels, waits, numbers);
+}
+
 // ---- any effect, where `run` runs
 pub fn carry(
     bytes: &mut [u8; 250],
@@ -87,12 +104,7 @@ pub fn carry(
             numbers::put_slice(numbers, level as usize, slice);
             numbers::put_charge(numbers, level as usize, 0);
         }
-        Effect::Ticks => {
-            let time = numbers::time_in(numbers);
-            numbers::put_time(numbers, std::num::wrapping_add_u32(time, 1));
-            charge_running(bytes, words, levels, waits, numbers, run);
-            effects::lapse(bytes, words, levels, waits, numbers);
-        }
+        Effect::Ticks => tick(bytes, words, levels, waits, numbers, run),
         Effect::Flags {
             flag,
             attributes,

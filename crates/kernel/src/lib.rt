@@ -2,6 +2,7 @@
 // for a caller that knows its state to be sound; `call` takes and gives a state by value, and tests it first.
 ghost use mathlib.Core.Path.{_≡_};
 ghost use Rattle.model.specs.State.{fresh, running};
+ghost use Rattle.model.specs.declared.Call.the-variants.{TickIntProcessing};
 ghost use Rattle.model.specs.Call.{stepFrom, call};
 ghost use Rattle.tables.specs.Lent.{before, after};
 ghost use Rattle.kernel.specs.Answer.{answerOf};
@@ -54,6 +55,34 @@ pub struct Stepped {
     pub value: u32,
 }
 
+// A tick looks at no record, so it goes a way of its own.
+fn tick_in(
+    bytes: &mut [u8; 250],
+    words: &mut [u32; 75],
+    levels: &mut [u8; 744],
+    waits: &mut [u8; 504],
+    numbers: &mut [u32; 107],
+    run: u8,
+    c: Context,
+) -> Stepped
+    ensures { λ r. ⌜ answerOf r (after bytes words levels waits numbers) ≡ stepFrom run (before bytes words levels waits numbers) c TickIntProcessing ⌝ }
+{
+    let mine = plans::in_i(c);
+    if !mine {
+        return Stepped {
+            code: Code::WContext,
+            running: best(levels),
+            value: 0,
+        };
+    }
+    carry::tick(bytes, words, levels, waits, numbers, run);
+    Stepped {
+        code: Code::NoErr,
+        running: best(levels),
+        value: 0,
+    }
+}
+
 // The step where `run` runs: whoever takes step after step knows that from the last one.
 pub fn step_in(
     bytes: &mut [u8; 250],
@@ -67,11 +96,14 @@ pub fn step_in(
 ) -> Stepped
     ensures { λ r. ⌜ answerOf r (after bytes words levels waits numbers) ≡ stepFrom run (before bytes words levels waits numbers) c a ⌝ }
 {
+    if let Call::TickIntProcessing = a {
+        return tick_in(bytes, words, levels, waits, numbers, run, c);
+    }
     let object = plans::object_of(a);
     let x = effects::semaphore_at(waits, numbers, object);
     let y = effects::flag_at(waits, numbers, object);
     let k = stored::record_at(bytes, words, plans::subject(a, run, x.first, y.first));
-    let p = plans::plan(plans::is_mine(c, a), a, run, k, x, y);
+    let p = plans::plan(c, a, run, k, x, y);
     let code = p.code;
     let value = p.value;
     let effect = p.effect;
@@ -84,7 +116,31 @@ pub fn step_in(
     }
 }
 
-// Any state: one that is not sound gets UNSOUND and task 0, and comes back as it was.
+// The checked call on the tables: a state that is not sound gets UNSOUND and task 0, and stays as it was.
+fn call_in(
+    bytes: &mut [u8; 250],
+    words: &mut [u32; 75],
+    levels: &mut [u8; 744],
+    waits: &mut [u8; 504],
+    numbers: &mut [u32; 107],
+    c: Context,
+    a: Call,
+) -> Stepped
+    ensures { λ r. ⌜ answerOf r (after bytes words levels waits numbers) ≡ call (before bytes words levels waits numbers) c a ⌝ }
+{
+    let sound = sound::sound_in(bytes, words, levels, waits, numbers);
+    if !sound {
+        return Stepped {
+            code: Code::Unsound,
+            running: 0,
+            value: 0,
+        };
+    }
+    let run = best(levels);
+    step_in(bytes, words, levels, waits, numbers, run, c, a)
+}
+
+// Any state, by value.
 pub fn call(s: State, c: Context, a: Call) -> Answer
     ensures { λ r. ⌜ r ≡ call s c a ⌝ }
 {
@@ -101,32 +157,20 @@ pub fn call(s: State, c: Context, a: Call) -> Answer
         &mut numbers,
         s,
     );
-    let sound = sound::sound_in(&bytes, &words, &levels, &waits, &numbers);
-    if !sound {
-        return Answer {
-            code: Code::Unsound,
-            running: 0,
-            value: 0,
-            state: s,
-        };
-    }
-    let run = best(&levels);
-    let r = step_in(
+    let r = call_in(
         &mut bytes,
         &mut words,
         &mut levels,
         &mut waits,
         &mut numbers,
-        run,
         c,
         a,
     );
-    let state = tables::gather(&bytes, &words, &levels, &waits, &numbers);
     let code = r.code;
     Answer {
         code,
         running: r.running,
         value: r.value,
-        state,
+        state: tables::gather(&bytes, &words, &levels, &waits, &numbers),
     }
 }

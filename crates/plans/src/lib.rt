@@ -1,9 +1,9 @@
 // Every call: which records it looks at, whether the context is its own, and its plan.
 // Each function is a definition of model/specs/Call or Services, for every value; it rests on plans_task, plans_semaphore and plans_flag.
 ghost use mathlib.Core.Path.{_≡_};
-ghost use Rattle.model.specs.declared.Context.the-variants.{I};
+ghost use Rattle.model.specs.declared.Context.the-variants.{T, I};
 ghost use Rattle.model.specs.Call.{objectOf, subject, plan};
-ghost use Rattle.model.specs.Services.{isMine};
+ghost use Rattle.model.specs.Services.{same, isMine};
 use model::Call;
 use model::Context;
 use model::Flag;
@@ -108,69 +108,78 @@ fn is_flag_inside(service: FlagService) -> bool
     }
 }
 
-// A call belongs to interrupts.
-fn is_inside(a: Call) -> bool
-    ensures { λ r. ⌜ r ≡ isMine I a ⌝ }
+// The context test of a service of flags: it comes from the context that it belongs to.
+fn is_flag_mine(c: Context, service: FlagService) -> bool
+    ensures { λ r. ⌜ r ≡ isMine c (Call.OnFlag 0 service) ⌝ }
 {
-    match a {
-        Call::TaskIactivate { .. } => true,
-        Call::TaskIwakeup { .. } => true,
-        Call::TaskIreleaseWait { .. } => true,
-        Call::TickIntProcessing => true,
-        Call::SemIsignal { .. } => true,
-        Call::SemIpolling { .. } => true,
-        Call::OnFlag { service, .. } => is_flag_inside(service),
-        _ => false,
-    }
-}
-
-// The context test: a call comes from the context that its service belongs to.
-pub fn is_mine(c: Context, a: Call) -> bool
-    ensures { λ r. ⌜ r ≡ isMine c a ⌝ }
-{
-    let inside = is_inside(a);
+    let inside = is_flag_inside(service);
     match c {
         Context::T => !inside,
         Context::I => inside,
     }
 }
 
-// A call's plan, from whether the context is its own, who runs, the subject's record, and the semaphore and the flag of the number that it names.
-pub fn plan(mine: bool, a: Call, run: u8, k: Task, x: Semaphore, y: Flag) -> Plan
-    ensures { λ r. ⌜ r ≡ plan mine a run k x y ⌝ }
+// The running task, or start-up code.
+fn in_t(c: Context) -> bool
+    ensures { λ r. ⌜ r ≡ same c T ⌝ }
 {
+    match c {
+        Context::T => true,
+        Context::I => false,
+    }
+}
+
+// Interrupts alone.
+pub fn in_i(c: Context) -> bool
+    ensures { λ r. ⌜ r ≡ same c I ⌝ }
+{
+    match c {
+        Context::T => false,
+        Context::I => true,
+    }
+}
+
+// A call's plan, from its context, who runs, the subject's record, and the semaphore and the flag of the number that it names.
+// Each arm knows the context of its service, which the table of services decides.
+pub fn plan(c: Context, a: Call, run: u8, k: Task, x: Semaphore, y: Flag) -> Plan
+    ensures { λ r. ⌜ r ≡ plan (isMine c a) a run k x y ⌝ }
+{
+    let mine_t = in_t(c);
+    let mine_i = in_i(c);
     match a {
         Call::TaskCreate {
             task,
             priority,
             option,
-        } => create(mine, task, priority, option, k),
-        Call::TaskDelete { task } => delete(mine, task, k),
-        Call::TaskActivate { task } => activate(mine, task, k),
-        Call::TaskIactivate { task } => activate(mine, task, k),
-        Call::TaskExit => exit(mine, run),
-        Call::TaskTerminate { task } => terminate(mine, task, run, k),
-        Call::TaskSuspend { task } => suspend(mine, task, k),
-        Call::TaskResume { task } => resume(mine, task, k),
-        Call::TaskSleep { timeout } => sleep(mine, timeout, run, k),
-        Call::TaskWakeup { task } => wakeup(mine, task, k),
-        Call::TaskIwakeup { task } => wakeup(mine, task, k),
-        Call::TaskReleaseWait { task } => release_wait(mine, task, k),
-        Call::TaskIreleaseWait { task } => release_wait(mine, task, k),
-        Call::TaskChangePriority { task, priority } => change_priority(mine, task, priority, k),
-        Call::SysTsliceTicks { level, slice } => tslice_ticks(mine, level, slice),
-        Call::TickIntProcessing => tick(mine),
+        } => create(mine_t, task, priority, option, k),
+        Call::TaskDelete { task } => delete(mine_t, task, k),
+        Call::TaskActivate { task } => activate(mine_t, task, k),
+        Call::TaskIactivate { task } => activate(mine_i, task, k),
+        Call::TaskExit => exit(mine_t, run),
+        Call::TaskTerminate { task } => terminate(mine_t, task, run, k),
+        Call::TaskSuspend { task } => suspend(mine_t, task, k),
+        Call::TaskResume { task } => resume(mine_t, task, k),
+        Call::TaskSleep { timeout } => sleep(mine_t, timeout, run, k),
+        Call::TaskWakeup { task } => wakeup(mine_t, task, k),
+        Call::TaskIwakeup { task } => wakeup(mine_i, task, k),
+        Call::TaskReleaseWait { task } => release_wait(mine_t, task, k),
+        Call::TaskIreleaseWait { task } => release_wait(mine_i, task, k),
+        Call::TaskChangePriority { task, priority } => change_priority(mine_t, task, priority, k),
+        Call::SysTsliceTicks { level, slice } => tslice_ticks(mine_t, level, slice),
+        Call::TickIntProcessing => tick(mine_i),
         Call::SemCreate {
             semaphore,
             start,
             maximum,
-        } => sem_create(mine, semaphore, start, maximum, x),
-        Call::SemDelete { semaphore } => sem_delete(mine, semaphore, x),
-        Call::SemSignal { semaphore } => signal(mine, semaphore, k, x),
-        Call::SemIsignal { semaphore } => signal(mine, semaphore, k, x),
-        Call::SemAcquire { semaphore, timeout } => acquire(mine, semaphore, timeout, run, k, x),
-        Call::SemPolling { semaphore } => polling(mine, semaphore, x),
-        Call::SemIpolling { semaphore } => polling(mine, semaphore, x),
-        Call::OnFlag { flag, service } => flag_plan(mine, flag, service, run, k, y),
+        } => sem_create(mine_t, semaphore, start, maximum, x),
+        Call::SemDelete { semaphore } => sem_delete(mine_t, semaphore, x),
+        Call::SemSignal { semaphore } => signal(mine_t, semaphore, k, x),
+        Call::SemIsignal { semaphore } => signal(mine_i, semaphore, k, x),
+        Call::SemAcquire { semaphore, timeout } => acquire(mine_t, semaphore, timeout, run, k, x),
+        Call::SemPolling { semaphore } => polling(mine_t, semaphore, x),
+        Call::SemIpolling { semaphore } => polling(mine_i, semaphore, x),
+        Call::OnFlag { flag, service } => {
+            flag_plan(is_flag_mine(c, service), flag, service, run, k, y)
+        },
     }
 }

@@ -157,7 +157,7 @@ pub of-plans : List Promise
 of-plans =
     of plans.object_of.signature (λ M. plans.object_of.clauses) (λ M. plans.object_of.Met.met) (λ w κs a g h o p. plain w result) ∷
     of plans.subject.signature (λ M. plans.subject.clauses) (λ M. plans.subject.Met.met) (λ w κs a g h o p. plain w result) ∷
-    of plans.is_mine.signature (λ M. plans.is_mine.clauses) (λ M. plans.is_mine.Met.met) (λ w κs a g h o p. plain w result) ∷
+    of plans.in_i.signature (λ M. plans.in_i.clauses) (λ M. plans.in_i.Met.met) (λ w κs a g h o p. plain w result) ∷
     of plans.plan.signature (λ M. plans.plan.clauses) (λ M. plans.plan.Met.met) (λ w κs a g h o p. plain w result) ∷
     []
 
@@ -185,6 +185,7 @@ of-effects =
 
 pub of-carry : List Promise
 of-carry =
+    typed carry.tick.signature (λ M. carry.tick.clauses) (λ M. carry.tick.Met.met) (λ w κs a g h o p. given w (λ i j. five (λ s. s) (λ b v l q n s. (tt, (b, (v, (l, (q, (n, _))))))) i j refl refl)) ∷
     typed carry.carry.signature (λ M. carry.carry.clauses) (λ M. carry.carry.Met.met) (λ w κs a g h o p. given w (λ i j. five (λ s. s) (λ b v l q n s. (tt, (b, (v, (l, (q, (n, _))))))) i j refl refl)) ∷
     []
 

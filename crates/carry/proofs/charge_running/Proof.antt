@@ -7,18 +7,9 @@ use Rattle.carry.proofs.charge_running.Tie as tie
 returns : tie.Need-returns
 returns c = law.idle _ _ (c .if1 .taken)
 
-record-at-requires : tie.Need-record-at-requires
-record-at-requires c κs = search needs
-
-cast-level : tie.Need-cast-level
-cast-level c = search needs
-
-charge-requires : tie.Need-charge-requires
-charge-requires c κs = search needs
-
 returns-2 : tie.Need-returns-2
 returns-2 c = law.runs _ _ _ _ (c .before .before .before .before .before .if1 .left) (c .before .before .before .before .record-at .ensures) (c .charge .ensures)
 
 pub charge-running-spec : {M : Type 1} → statement M
 charge-running-spec =
-    tie.close (tie.spec returns record-at-requires cast-level charge-requires returns-2)
+    tie.close (tie.spec returns (λ c κs. search needs) (λ c. search needs) (λ c κs. search needs) returns-2)

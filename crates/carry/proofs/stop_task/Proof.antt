@@ -6,23 +6,8 @@ use borrow.Author.Needs.{needs}
 use Rattle.carry.proofs.stop_task.Statement.{statement}
 use Rattle.carry.proofs.stop_task.Tie as tie
 
-record-at-requires : tie.Need-record-at-requires
-record-at-requires c κs = search needs
-
-dormant-requires : tie.Need-dormant-requires
-dormant-requires c κs = search needs
-
-move-from-requires : tie.Need-move-from-requires
-move-from-requires c κs = search needs
-
 returns : tie.Need-returns
 returns c = law.rests (stateIn _ _ _ _ _) _ _ _ _ (c .before .before .before .before .before .before .before .record-at .ensures) (c .before .before .before .before .before .before .dormant .ensures) (c .before .move-from .ensures) (c .if1 .taken)
-
-activated-requires : tie.Need-activated-requires
-activated-requires c κs = search needs
-
-move-task-requires : tie.Need-move-task-requires
-move-task-requires c κs = search needs
 
 returns-2 : tie.Need-returns-2
 returns-2 c = law.starts (stateIn _ _ _ _ _) _ _ _ _ (c .before .before .before .before .before .before .before .before .before .before .before .before .before .record-at .ensures) (c .before .before .before .before .before .before .before .before .before .before .before .before .dormant .ensures) (c .before .before .before .before .before .before .before .move-from .ensures) _ _ (c .before .before .before .before .before .before .if1 .left) (c .before .before .before .before .before .activated .ensures) (c .move-task .ensures)
@@ -31,10 +16,10 @@ pub stop-task-spec : {M : Type 1} → statement M
 stop-task-spec =
     tie.close
     (tie.spec
-    record-at-requires
-    dormant-requires
-    move-from-requires
+    (λ c κs. search needs)
+    (λ c κs. search needs)
+    (λ c κs. search needs)
     returns
-    activated-requires
-    move-task-requires
+    (λ c κs. search needs)
+    (λ c κs. search needs)
     returns-2)

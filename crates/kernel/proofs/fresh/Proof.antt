@@ -3,11 +3,8 @@ use borrow.Author.Needs.{needs}
 use Rattle.kernel.proofs.fresh.Statement.{statement}
 use Rattle.kernel.proofs.fresh.Tie as tie
 
-no-task-requires : tie.Need-no-task-requires
-no-task-requires c κs = search needs
-
 returns : tie.Need-returns
 returns c = rw (c .no-task .ensures)
 
 pub fresh-spec : {M : Type 1} → statement M
-fresh-spec = tie.close (tie.spec no-task-requires returns)
+fresh-spec = tie.close (tie.spec (λ c κs. search needs) returns)

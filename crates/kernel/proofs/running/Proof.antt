@@ -6,15 +6,9 @@ use borrow.Author.Needs.{needs}
 use Rattle.kernel.proofs.running.Statement.{statement}
 use Rattle.kernel.proofs.running.Tie as tie
 
-spread-levels-requires : tie.Need-spread-levels-requires
-spread-levels-requires c κs = search needs
-
-best-requires : tie.Need-best-requires
-best-requires c κs = search needs
-
 returns : tie.Need-returns
 unfolding running
 returns c = c .best .ensures ∙ ap (bestFrom 30 1) (c .before .before .spread-levels .ensures)
 
 pub running-spec : {M : Type 1} → statement M
-running-spec = tie.close (tie.spec spread-levels-requires best-requires returns)
+running-spec = tie.close (tie.spec (λ c κs. search needs) (λ c κs. search needs) returns)

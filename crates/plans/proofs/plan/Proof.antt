@@ -1,111 +1,112 @@
--- `plans::plan` meets its contract: call by call.
+-- `plans::plan` meets its contract: call by call; the context of each service is the one that its row of the table has.
 -- It rests on the contracts of the services.
-use borrow.Author.Needs.{needs}
 use Rattle.model.specs.Call.{plan}
+use Rattle.model.specs.Services.{service, services, tasks, system, semaphores, flags, isMine}
+use borrow.Author.Needs.{needs}
 use Rattle.plans.proofs.plan.Statement.{statement}
 use Rattle.plans.proofs.plan.Tie as tie
 
 returns : tie.Need-returns
-unfolding plan
-returns c = rw (c .create .ensures, c .before .before .a .given .1)
+unfolding plan isMine service services tasks system semaphores flags
+returns c = rw (c .create .ensures, c .before .before .a .given .1, c .before .before .before .before .before .in-t .ensures)
 
 returns-2 : tie.Need-returns-2
-unfolding plan
-returns-2 c = rw (c .delete .ensures, c .before .before .a2 .given .1)
+unfolding plan isMine service services tasks system semaphores flags
+returns-2 c = rw (c .delete .ensures, c .before .before .a2 .given .1, c .before .before .before .before .before .in-t .ensures)
 
 returns-3 : tie.Need-returns-3
-unfolding plan
-returns-3 c = rw (c .activate .ensures, c .before .before .a3 .given .1)
+unfolding plan isMine service services tasks system semaphores flags
+returns-3 c = rw (c .activate .ensures, c .before .before .a3 .given .1, c .before .before .before .before .before .in-t .ensures)
 
 returns-4 : tie.Need-returns-4
-unfolding plan
-returns-4 c = rw (c .activate2 .ensures, c .before .before .a4 .given .1)
+unfolding plan isMine service services tasks system semaphores flags
+returns-4 c = rw (c .activate2 .ensures, c .before .before .a4 .given .1, c .before .before .before .before .in-i .ensures)
 
 returns-5 : tie.Need-returns-5
-unfolding plan
-returns-5 c = rw (c .exit .ensures, c .before .enum-told .given .1)
+unfolding plan isMine service services tasks system semaphores flags
+returns-5 c = rw (c .exit .ensures, c .before .enum-told .given .1, c .before .before .before .before .in-t .ensures)
 
 returns-6 : tie.Need-returns-6
-unfolding plan
-returns-6 c = rw (c .terminate .ensures, c .before .before .a5 .given .1)
+unfolding plan isMine service services tasks system semaphores flags
+returns-6 c = rw (c .terminate .ensures, c .before .before .a5 .given .1, c .before .before .before .before .before .in-t .ensures)
 
 returns-7 : tie.Need-returns-7
-unfolding plan
-returns-7 c = rw (c .suspend .ensures, c .before .before .a6 .given .1)
+unfolding plan isMine service services tasks system semaphores flags
+returns-7 c = rw (c .suspend .ensures, c .before .before .a6 .given .1, c .before .before .before .before .before .in-t .ensures)
 
 returns-8 : tie.Need-returns-8
-unfolding plan
-returns-8 c = rw (c .resume .ensures, c .before .before .a7 .given .1)
+unfolding plan isMine service services tasks system semaphores flags
+returns-8 c = rw (c .resume .ensures, c .before .before .a7 .given .1, c .before .before .before .before .before .in-t .ensures)
 
 returns-9 : tie.Need-returns-9
-unfolding plan
-returns-9 c = rw (c .sleep .ensures, c .before .before .a8 .given .1)
+unfolding plan isMine service services tasks system semaphores flags
+returns-9 c = rw (c .sleep .ensures, c .before .before .a8 .given .1, c .before .before .before .before .before .in-t .ensures)
 
 returns-10 : tie.Need-returns-10
-unfolding plan
-returns-10 c = rw (c .wakeup .ensures, c .before .before .a9 .given .1)
+unfolding plan isMine service services tasks system semaphores flags
+returns-10 c = rw (c .wakeup .ensures, c .before .before .a9 .given .1, c .before .before .before .before .before .in-t .ensures)
 
 returns-11 : tie.Need-returns-11
-unfolding plan
-returns-11 c = rw (c .wakeup2 .ensures, c .before .before .a10 .given .1)
+unfolding plan isMine service services tasks system semaphores flags
+returns-11 c = rw (c .wakeup2 .ensures, c .before .before .a10 .given .1, c .before .before .before .before .in-i .ensures)
 
 returns-12 : tie.Need-returns-12
-unfolding plan
-returns-12 c = rw (c .release-wait .ensures, c .before .before .a11 .given .1)
+unfolding plan isMine service services tasks system semaphores flags
+returns-12 c = rw (c .release-wait .ensures, c .before .before .a11 .given .1, c .before .before .before .before .before .in-t .ensures)
 
 returns-13 : tie.Need-returns-13
-unfolding plan
-returns-13 c = rw (c .release-wait2 .ensures, c .before .before .a12 .given .1)
+unfolding plan isMine service services tasks system semaphores flags
+returns-13 c = rw (c .release-wait2 .ensures, c .before .before .a12 .given .1, c .before .before .before .before .in-i .ensures)
 
 returns-14 : tie.Need-returns-14
-unfolding plan
-returns-14 c = rw (c .change-priority .ensures, c .before .before .a13 .given .1)
+unfolding plan isMine service services tasks system semaphores flags
+returns-14 c = rw (c .change-priority .ensures, c .before .before .a13 .given .1, c .before .before .before .before .before .in-t .ensures)
 
 returns-15 : tie.Need-returns-15
-unfolding plan
-returns-15 c = rw (c .tslice-ticks .ensures, c .before .before .a14 .given .1)
+unfolding plan isMine service services tasks system semaphores flags
+returns-15 c = rw (c .tslice-ticks .ensures, c .before .before .a14 .given .1, c .before .before .before .before .before .in-t .ensures)
 
 returns-16 : tie.Need-returns-16
-unfolding plan
-returns-16 c = rw (c .tick .ensures, c .before .enum-told2 .given .1)
+unfolding plan isMine service services tasks system semaphores flags
+returns-16 c = rw (c .tick .ensures, c .before .enum-told2 .given .1, c .before .before .before .in-i .ensures)
 
 returns-17 : tie.Need-returns-17
-unfolding plan
-returns-17 c = rw (c .sem-create .ensures, c .before .before .a15 .given .1)
+unfolding plan isMine service services tasks system semaphores flags
+returns-17 c = rw (c .sem-create .ensures, c .before .before .a15 .given .1, c .before .before .before .before .before .in-t .ensures)
 
 returns-18 : tie.Need-returns-18
-unfolding plan
-returns-18 c = rw (c .sem-delete .ensures, c .before .before .a16 .given .1)
+unfolding plan isMine service services tasks system semaphores flags
+returns-18 c = rw (c .sem-delete .ensures, c .before .before .a16 .given .1, c .before .before .before .before .before .in-t .ensures)
 
 returns-19 : tie.Need-returns-19
-unfolding plan
-returns-19 c = rw (c .signal .ensures, c .before .before .a17 .given .1)
+unfolding plan isMine service services tasks system semaphores flags
+returns-19 c = rw (c .signal .ensures, c .before .before .a17 .given .1, c .before .before .before .before .before .in-t .ensures)
 
 returns-20 : tie.Need-returns-20
-unfolding plan
-returns-20 c = rw (c .signal2 .ensures, c .before .before .a18 .given .1)
+unfolding plan isMine service services tasks system semaphores flags
+returns-20 c = rw (c .signal2 .ensures, c .before .before .a18 .given .1, c .before .before .before .before .in-i .ensures)
 
 returns-21 : tie.Need-returns-21
-unfolding plan
-returns-21 c = rw (c .acquire .ensures, c .before .before .a19 .given .1)
+unfolding plan isMine service services tasks system semaphores flags
+returns-21 c = rw (c .acquire .ensures, c .before .before .a19 .given .1, c .before .before .before .before .before .in-t .ensures)
 
 returns-22 : tie.Need-returns-22
-unfolding plan
-returns-22 c = rw (c .polling .ensures, c .before .before .a20 .given .1)
+unfolding plan isMine service services tasks system semaphores flags
+returns-22 c = rw (c .polling .ensures, c .before .before .a20 .given .1, c .before .before .before .before .before .in-t .ensures)
 
 returns-23 : tie.Need-returns-23
-unfolding plan
-returns-23 c = rw (c .polling2 .ensures, c .before .before .a21 .given .1)
+unfolding plan isMine service services tasks system semaphores flags
+returns-23 c = rw (c .polling2 .ensures, c .before .before .a21 .given .1, c .before .before .before .before .in-i .ensures)
 
 returns-24 : tie.Need-returns-24
-unfolding plan
-returns-24 c = rw (c .flag-plan .ensures, c .before .before .a22 .given .1)
+unfolding plan isMine service services tasks system semaphores flags
+returns-24 c = rw (c .flag-plan .ensures, c .before .before .before .a22 .given .1, c .before .is-flag-mine .ensures)
 
 pub plan-spec : {M : Type 1} → statement M
 plan-spec =
     tie.close
     (tie.spec
-    (λ c. search needs)
+    (λ c κs. search needs)
     (λ c κs. search needs)
     (λ c. search needs)
     (λ c κs. search needs)
@@ -152,6 +153,9 @@ plan-spec =
     (λ c. search needs)
     (λ c κs. search needs)
     (λ c. search needs)
+    (λ c κs. search needs)
+    (λ c. search needs)
+    (λ c κs. search needs)
     (λ c κs. search needs)
     returns
     returns-2
