@@ -99,6 +99,8 @@ pub of-tables : List Promise
 of-tables =
     typed tables.spread.signature (λ M. tables.spread.clauses) (λ M. tables.spread.Met.met) (λ w κs a g h o p. given w (λ i j. five (λ s. s) (λ b v l q n s. (tt, (b, (v, (l, (q, (n, _))))))) i j refl refl)) ∷
     of tables.gather.signature (λ M. tables.gather.clauses) (λ M. tables.gather.Met.met) (λ w κs a g h o p. plain w result) ∷
+    of tables.semaphore_at.signature (λ M. tables.semaphore_at.clauses) (λ M. tables.semaphore_at.Met.met) (λ w κs a g h o p. plain w result) ∷
+    of tables.flag_at.signature (λ M. tables.flag_at.clauses) (λ M. tables.flag_at.Met.met) (λ w κs a g h o p. plain w result) ∷
     []
 
 pub of-checks : List Promise
@@ -155,10 +157,8 @@ of-plans_flag =
 
 pub of-plans : List Promise
 of-plans =
-    of plans.object_of.signature (λ M. plans.object_of.clauses) (λ M. plans.object_of.Met.met) (λ w κs a g h o p. plain w result) ∷
-    of plans.subject.signature (λ M. plans.subject.clauses) (λ M. plans.subject.Met.met) (λ w κs a g h o p. plain w result) ∷
     of plans.in_i.signature (λ M. plans.in_i.clauses) (λ M. plans.in_i.Met.met) (λ w κs a g h o p. plain w result) ∷
-    of plans.plan.signature (λ M. plans.plan.clauses) (λ M. plans.plan.Met.met) (λ w κs a g h o p. plain w result) ∷
+    of plans.plan_in.signature (λ M. plans.plan_in.clauses) (λ M. plans.plan_in.Met.met) (λ w κs a g h o p. plain w result) ∷
     []
 
 pub of-crossing : List Promise
@@ -174,8 +174,6 @@ of-sound =
 
 pub of-effects : List Promise
 of-effects =
-    of effects.semaphore_at.signature (λ M. effects.semaphore_at.clauses) (λ M. effects.semaphore_at.Met.met) (λ w κs a g h o p. plain w result) ∷
-    of effects.flag_at.signature (λ M. effects.flag_at.clauses) (λ M. effects.flag_at.Met.met) (λ w κs a g h o p. plain w result) ∷
     typed effects.move_from.signature (λ M. effects.move_from.clauses) (λ M. effects.move_from.Met.met) (λ w κs a g h o p. given w (λ i j. four (a .1 .1 .1 .1 .0 .now) i j)) ∷
     typed effects.move_task.signature (λ M. effects.move_task.clauses) (λ M. effects.move_task.Met.met) (λ w κs a g h o p. given w (λ i j. four (a .1 .1 .1 .1 .0 .now) i j)) ∷
     typed effects.charge.signature (λ M. effects.charge.clauses) (λ M. effects.charge.Met.met) (λ w κs a g h o p. given w (λ i j. charged (a .0 .now) (a .1 .0 .now) (a .1 .1 .1 .0 .now) i j)) ∷
