@@ -22,14 +22,9 @@ same() {
 }
 
 # ---- the table: number, name, context, and a word for each field, as `1 tn_task_create T task priority option`
-grep -q '^services = tasks ++ (system ++ (semaphores ++ events))$' "$table" || { echo "services: the parts of $table stand in another order"; exit 1; }
+grep -q '^services = tasks ++ (system ++ (semaphores ++ flags))$' "$table" || { echo "services: the parts of $table stand in another order"; exit 1; }
 awk '
-    BEGIN {
-        n = split("aTask task aPriority priority anOption option aLevel level aSlice slice aTimeout timeout aSemaphore semaphore aStart start " \
-            "aMaximum maximum aFlag flag anAttribute attributes someBits bits aPattern pattern aMode mode", pair, " ")
-        for (i = 1; i < n; i += 2) word[pair[i]] = pair[i + 1]
-    }
-    /^ *(∷ )?row "tn_/ {
+    /^ *(∷ )?aService "tn_/ {
         split($0, quoted, "\"")
         rest = quoted[3]
         line = ++number " " quoted[2] " " substr(rest, 2, 1)
@@ -37,7 +32,7 @@ awk '
         if (rest ~ /^ [TI] \(/) {
             sub(/^ [TI] \(/, "", rest)
             sub(/ ∷ \[\]\).*/, "", rest)
-            for (i = 1; i <= split(rest, kind, " ∷ "); i++) line = line " " (kind[i] in word ? word[kind[i]] : "no-word-for-" kind[i])
+            for (i = 1; i <= split(rest, kind, " ∷ "); i++) line = line " " (kind[i] ~ /^the[A-Z]/ ? tolower(substr(kind[i], 4)) : "no-word-for-" kind[i])
         }
         print line
     }
