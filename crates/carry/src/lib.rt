@@ -7,16 +7,21 @@ use effects::move_from;
 use effects::move_task;
 use model::Effect;
 use model::News;
+use numbers::NumberTable;
+use queues::Levels;
+use queues::Waits;
 use queues::lent::waiters;
+use stored::Bytes;
+use stored::Words;
 use stored::record_at;
 
 // ---- one task becomes dormant, and runnable again at once where an activation is counted
 fn stop_task(
-    bytes: &mut [u8; 250],
-    words: &mut [u32; 75],
-    levels: &mut [u8; 744],
-    waits: &mut [u8; 504],
-    numbers: &[u32; 107],
+    bytes: &mut Bytes,
+    words: &mut Words,
+    levels: &mut Levels,
+    waits: &mut Waits,
+    numbers: &NumberTable,
     t: u8,
 )
     ensures { λ r. ⌜ after bytes words levels waits numbers ≡ stopped t (before bytes words levels waits numbers) ⌝ }
@@ -34,11 +39,11 @@ fn stop_task(
 
 // ---- the running task's level is charged; 0 has none
 fn charge_running(
-    bytes: &[u8; 250],
-    words: &[u32; 75],
-    levels: &mut [u8; 744],
-    waits: &[u8; 504],
-    numbers: &mut [u32; 107],
+    bytes: &Bytes,
+    words: &Words,
+    levels: &mut Levels,
+    waits: &Waits,
+    numbers: &mut NumberTable,
     run: u8,
 )
     ensures { λ r. ⌜ after bytes words levels waits numbers ≡ charged run (before bytes words levels waits numbers) ⌝ }
@@ -53,11 +58,11 @@ fn charge_running(
 
 // ---- a tick, where `run` runs: time goes up by one, the level of who runs is charged, the timeouts fall
 pub fn tick(
-    bytes: &mut [u8; 250],
-    words: &mut [u32; 75],
-    levels: &mut [u8; 744],
-    waits: &mut [u8; 504],
-    numbers: &mut [u32; 107],
+    bytes: &mut Bytes,
+    words: &mut Words,
+    levels: &mut Levels,
+    waits: &mut Waits,
+    numbers: &mut NumberTable,
     run: u8,
 )
     ensures { λ r. ⌜ after bytes words levels waits numbers ≡ tickedFrom run (before bytes words levels waits numbers) ⌝ }
@@ -70,11 +75,11 @@ pub fn tick(
 
 // ---- any effect, where `run` runs
 pub fn carry(
-    bytes: &mut [u8; 250],
-    words: &mut [u32; 75],
-    levels: &mut [u8; 744],
-    waits: &mut [u8; 504],
-    numbers: &mut [u32; 107],
+    bytes: &mut Bytes,
+    words: &mut Words,
+    levels: &mut Levels,
+    waits: &mut Waits,
+    numbers: &mut NumberTable,
     run: u8,
     e: Effect,
 )

@@ -9,6 +9,9 @@ ghost use Rattle.tables.specs.Lent.{before, after};
 ghost use Rattle.effects.specs.Falling.{fallen, isDue, fallAll};
 use model::News;
 use model::Task;
+use numbers::NumberTable;
+use queues::Levels;
+use queues::Waits;
 use queues::lent::relist_levels;
 use queues::lent::relist_waits;
 use queues::lent::turn_level;
@@ -16,17 +19,19 @@ use records::ENDLESS;
 use records::SERVED;
 use records::SLEEP;
 use records::TIMEOUT;
+use stored::Bytes;
+use stored::Words;
 use stored::put_record;
 use stored::put_remaining;
 use stored::record_at;
 
 // ---- one task moves: its record k becomes x, and the queues follow the two. The one mover; whoever has read k hands it on.
 pub fn move_from(
-    bytes: &mut [u8; 250],
-    words: &mut [u32; 75],
-    levels: &mut [u8; 744],
-    waits: &mut [u8; 504],
-    numbers: &[u32; 107],
+    bytes: &mut Bytes,
+    words: &mut Words,
+    levels: &mut Levels,
+    waits: &mut Waits,
+    numbers: &NumberTable,
     t: u8,
     k: Task,
     x: Task,
@@ -49,11 +54,11 @@ pub fn move_from(
 }
 
 pub fn move_task(
-    bytes: &mut [u8; 250],
-    words: &mut [u32; 75],
-    levels: &mut [u8; 744],
-    waits: &mut [u8; 504],
-    numbers: &[u32; 107],
+    bytes: &mut Bytes,
+    words: &mut Words,
+    levels: &mut Levels,
+    waits: &mut Waits,
+    numbers: &NumberTable,
     t: u8,
     x: Task,
 )
@@ -71,11 +76,11 @@ fn wide(x: u32) -> u64
 }
 
 pub fn charge(
-    bytes: &[u8; 250],
-    words: &[u32; 75],
-    levels: &mut [u8; 744],
-    waits: &[u8; 504],
-    numbers: &mut [u32; 107],
+    bytes: &Bytes,
+    words: &Words,
+    levels: &mut Levels,
+    waits: &Waits,
+    numbers: &mut NumberTable,
     l: usize,
 )
     ensures { λ r. ⌜ after bytes words levels waits numbers ≡ chargedLevel l (before bytes words levels waits numbers) ⌝ }
@@ -120,7 +125,7 @@ fn fallen(n: u32) -> u32
 }
 
 // Whether any timeout ends with the next tick. A slice tells the prover its length, an array behind a reference does not.
-fn is_due(words: &[u32; 75]) -> bool
+fn is_due(words: &Words) -> bool
     ensures { λ r. ⌜ (r ≡ isDue 24 1 (now (words .entry))) × (length (now (words .entry)) ≡ 75) ⌝ }
 {
     let w: &[u32] = words;
@@ -134,7 +139,7 @@ fn is_due(words: &[u32; 75]) -> bool
 }
 
 // All timeouts of a tick that ends none: no test and no call between two stores, so that they go several at a time.
-fn fall(words: &mut [u32; 75])
+fn fall(words: &mut Words)
     ensures { λ r. ⌜ now (words .exit) ≡ fallAll 24 1 (now (words .entry)) ⌝ }
 {
     let mut t: usize = 1;
@@ -147,11 +152,11 @@ fn fall(words: &mut [u32; 75])
 
 // Tasks 1 to 24 in ascending number: each finite timeout falls by 1, and those reaching 0 end.
 pub fn lapse(
-    bytes: &mut [u8; 250],
-    words: &mut [u32; 75],
-    levels: &mut [u8; 744],
-    waits: &mut [u8; 504],
-    numbers: &[u32; 107],
+    bytes: &mut Bytes,
+    words: &mut Words,
+    levels: &mut Levels,
+    waits: &mut Waits,
+    numbers: &NumberTable,
 )
     ensures { λ r. ⌜ after bytes words levels waits numbers ≡ lapsed 24 1 (before bytes words levels waits numbers) ⌝ }
 {
@@ -176,11 +181,11 @@ pub fn lapse(
 
 // ---- those in a queue are told the news, in queue order
 pub fn tell_all(
-    bytes: &mut [u8; 250],
-    words: &mut [u32; 75],
-    levels: &mut [u8; 744],
-    waits: &mut [u8; 504],
-    numbers: &[u32; 107],
+    bytes: &mut Bytes,
+    words: &mut Words,
+    levels: &mut Levels,
+    waits: &mut Waits,
+    numbers: &NumberTable,
     q: [u8; 24],
     news: News,
 )

@@ -13,7 +13,12 @@ use model::Context;
 use model::Numbers;
 use model::Queue;
 use model::State;
+use numbers::NumberTable;
+use queues::Levels;
+use queues::Waits;
 use queues::lent::best;
+use stored::Bytes;
+use stored::Words;
 
 // Nothing created, time 0 and no slices.
 pub fn fresh() -> State
@@ -57,11 +62,11 @@ pub struct Stepped {
 
 // A tick looks at no record, so it goes a way of its own.
 fn tick_in(
-    bytes: &mut [u8; 250],
-    words: &mut [u32; 75],
-    levels: &mut [u8; 744],
-    waits: &mut [u8; 504],
-    numbers: &mut [u32; 107],
+    bytes: &mut Bytes,
+    words: &mut Words,
+    levels: &mut Levels,
+    waits: &mut Waits,
+    numbers: &mut NumberTable,
     run: u8,
     c: Context,
 ) -> Stepped
@@ -85,11 +90,11 @@ fn tick_in(
 
 // The step where `run` runs: whoever takes step after step knows that from the last one.
 pub fn step_in(
-    bytes: &mut [u8; 250],
-    words: &mut [u32; 75],
-    levels: &mut [u8; 744],
-    waits: &mut [u8; 504],
-    numbers: &mut [u32; 107],
+    bytes: &mut Bytes,
+    words: &mut Words,
+    levels: &mut Levels,
+    waits: &mut Waits,
+    numbers: &mut NumberTable,
     run: u8,
     c: Context,
     a: Call,
@@ -114,11 +119,11 @@ pub fn step_in(
 
 // The checked call on the tables: a state that is not sound gets UNSOUND and task 0, and stays as it was.
 fn call_in(
-    bytes: &mut [u8; 250],
-    words: &mut [u32; 75],
-    levels: &mut [u8; 744],
-    waits: &mut [u8; 504],
-    numbers: &mut [u32; 107],
+    bytes: &mut Bytes,
+    words: &mut Words,
+    levels: &mut Levels,
+    waits: &mut Waits,
+    numbers: &mut NumberTable,
     c: Context,
     a: Call,
 ) -> Stepped

@@ -8,6 +8,9 @@ ghost use Rattle.numbers.specs.Numbers.{part, stored, heldIn};
 ghost use Rattle.model.specs.State.{noted, ofSlices, ofCharges, ofCounts, ofMaxima, ofAttributes, ofBits, ofTime};
 use model::Numbers;
 
+// The table: its parts lie one behind the other.
+pub type NumberTable = [u32; 107];
+
 // ---- where each part begins,
 const SLICES: u16 = 0;
 
@@ -69,86 +72,86 @@ fn put_number(ns: &mut [u32], a: u16, n: u16, i: usize, v: u32)
 }
 
 // ---- each part: what stands in it,
-pub fn slice_at(ns: &[u32; 107], l: usize) -> u32
+pub fn slice_at(ns: &NumberTable, l: usize) -> u32
     ensures { λ r. ⌜ r ≡ getD (heldIn (now (ns .entry)) .slices) l 0 ⌝ }
 {
     number_at(ns, SLICES, LEVELS, l)
 }
 
-pub fn charge_at(ns: &[u32; 107], l: usize) -> u32
+pub fn charge_at(ns: &NumberTable, l: usize) -> u32
     ensures { λ r. ⌜ r ≡ getD (heldIn (now (ns .entry)) .charges) l 0 ⌝ }
 {
     number_at(ns, CHARGES, LEVELS, l)
 }
 
-pub fn count_at(ns: &[u32; 107], m: usize) -> u32
+pub fn count_at(ns: &NumberTable, m: usize) -> u32
     ensures { λ r. ⌜ r ≡ getD (heldIn (now (ns .entry)) .counts) m 0 ⌝ }
 {
     number_at(ns, COUNTS, SEMAPHORES, m)
 }
 
-pub fn maximum_at(ns: &[u32; 107], m: usize) -> u32
+pub fn maximum_at(ns: &NumberTable, m: usize) -> u32
     ensures { λ r. ⌜ r ≡ getD (heldIn (now (ns .entry)) .maxima) m 0 ⌝ }
 {
     number_at(ns, MAXIMA, SEMAPHORES, m)
 }
 
-pub fn attributes_at(ns: &[u32; 107], f: usize) -> u32
+pub fn attributes_at(ns: &NumberTable, f: usize) -> u32
     ensures { λ r. ⌜ r ≡ getD (heldIn (now (ns .entry)) .attributes) f 0 ⌝ }
 {
     number_at(ns, ATTRIBUTES, FLAGS, f)
 }
 
-pub fn bits_at(ns: &[u32; 107], f: usize) -> u32
+pub fn bits_at(ns: &NumberTable, f: usize) -> u32
     ensures { λ r. ⌜ r ≡ getD (heldIn (now (ns .entry)) .bits) f 0 ⌝ }
 {
     number_at(ns, BITS, FLAGS, f)
 }
 
-pub fn time_in(ns: &[u32; 107]) -> u32
+pub fn time_in(ns: &NumberTable) -> u32
     ensures { λ r. ⌜ r ≡ heldIn (now (ns .entry)) .time ⌝ }
 {
     number_at(ns, TIME, 1, 0)
 }
 
 // and a change of it
-pub fn put_slice(ns: &mut [u32; 107], l: usize, v: u32)
+pub fn put_slice(ns: &mut NumberTable, l: usize, v: u32)
     ensures { λ r. ⌜ heldIn (now (ns .exit)) ≡ noted ofSlices l v (heldIn (now (ns .entry))) ⌝ }
 {
     put_number(ns, SLICES, LEVELS, l, v);
 }
 
-pub fn put_charge(ns: &mut [u32; 107], l: usize, v: u32)
+pub fn put_charge(ns: &mut NumberTable, l: usize, v: u32)
     ensures { λ r. ⌜ heldIn (now (ns .exit)) ≡ noted ofCharges l v (heldIn (now (ns .entry))) ⌝ }
 {
     put_number(ns, CHARGES, LEVELS, l, v);
 }
 
-pub fn put_count(ns: &mut [u32; 107], m: usize, v: u32)
+pub fn put_count(ns: &mut NumberTable, m: usize, v: u32)
     ensures { λ r. ⌜ heldIn (now (ns .exit)) ≡ noted ofCounts m v (heldIn (now (ns .entry))) ⌝ }
 {
     put_number(ns, COUNTS, SEMAPHORES, m, v);
 }
 
-pub fn put_maximum(ns: &mut [u32; 107], m: usize, v: u32)
+pub fn put_maximum(ns: &mut NumberTable, m: usize, v: u32)
     ensures { λ r. ⌜ heldIn (now (ns .exit)) ≡ noted ofMaxima m v (heldIn (now (ns .entry))) ⌝ }
 {
     put_number(ns, MAXIMA, SEMAPHORES, m, v);
 }
 
-pub fn put_attributes(ns: &mut [u32; 107], f: usize, v: u32)
+pub fn put_attributes(ns: &mut NumberTable, f: usize, v: u32)
     ensures { λ r. ⌜ heldIn (now (ns .exit)) ≡ noted ofAttributes f v (heldIn (now (ns .entry))) ⌝ }
 {
     put_number(ns, ATTRIBUTES, FLAGS, f, v);
 }
 
-pub fn put_bits(ns: &mut [u32; 107], f: usize, v: u32)
+pub fn put_bits(ns: &mut NumberTable, f: usize, v: u32)
     ensures { λ r. ⌜ heldIn (now (ns .exit)) ≡ noted ofBits f v (heldIn (now (ns .entry))) ⌝ }
 {
     put_number(ns, BITS, FLAGS, f, v);
 }
 
-pub fn put_time(ns: &mut [u32; 107], v: u32)
+pub fn put_time(ns: &mut NumberTable, v: u32)
     ensures { λ r. ⌜ heldIn (now (ns .exit)) ≡ noted ofTime 0 v (heldIn (now (ns .entry))) ⌝ }
 {
     // as a slice, which tells the prover how long it is
@@ -202,7 +205,7 @@ fn put9(ns: &mut [u32], a: u16, xs: [u32; 9])
     put_part(ns, a, &xs);
 }
 
-pub fn spread(ns: &mut [u32; 107], x: Numbers)
+pub fn spread(ns: &mut NumberTable, x: Numbers)
     ensures { λ r. ⌜ heldIn (now (ns .exit)) ≡ x ⌝ }
 {
     let n: &mut [u32] = ns;
@@ -248,7 +251,7 @@ fn part9(ns: &[u32], a: u16) -> [u32; 9]
     r
 }
 
-pub fn gather(ns: &[u32; 107]) -> Numbers
+pub fn gather(ns: &NumberTable) -> Numbers
     ensures { λ r. ⌜ r ≡ heldIn (now (ns .entry)) ⌝ }
 {
     let n: &[u32] = ns;

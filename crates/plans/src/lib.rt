@@ -13,6 +13,7 @@ use model::Call;
 use model::Context;
 use model::FlagService;
 use model::Plan;
+use numbers::NumberTable;
 use plans_flag::flag_plan;
 use plans_flag::flag_subject;
 use plans_semaphore::acquire;
@@ -33,6 +34,10 @@ use plans_task::waits::resume;
 use plans_task::waits::sleep;
 use plans_task::waits::suspend;
 use plans_task::waits::wakeup;
+use queues::Levels;
+use queues::Waits;
+use stored::Bytes;
+use stored::Words;
 use stored::record_at;
 use tables::flag_at;
 use tables::semaphore_at;
@@ -84,11 +89,11 @@ fn is_flag_mine(c: Context, service: FlagService) -> bool
 // ---- plans
 // A signal looks at the record of the first waiter.
 fn signal_in(
-    bytes: &[u8; 250],
-    words: &[u32; 75],
-    levels: &[u8; 744],
-    waits: &[u8; 504],
-    numbers: &[u32; 107],
+    bytes: &Bytes,
+    words: &Words,
+    levels: &Levels,
+    waits: &Waits,
+    numbers: &NumberTable,
     mine: bool,
     m: u32,
 ) -> Plan
@@ -100,11 +105,11 @@ fn signal_in(
 }
 
 fn flag_plan_in(
-    bytes: &[u8; 250],
-    words: &[u32; 75],
-    levels: &[u8; 744],
-    waits: &[u8; 504],
-    numbers: &[u32; 107],
+    bytes: &Bytes,
+    words: &Words,
+    levels: &Levels,
+    waits: &Waits,
+    numbers: &NumberTable,
     run: u8,
     c: Context,
     flag: u32,
@@ -119,11 +124,11 @@ fn flag_plan_in(
 
 // The context that each arm asks for is the one that its service belongs to in the table of services.
 pub fn plan_in(
-    bytes: &[u8; 250],
-    words: &[u32; 75],
-    levels: &[u8; 744],
-    waits: &[u8; 504],
-    numbers: &[u32; 107],
+    bytes: &Bytes,
+    words: &Words,
+    levels: &Levels,
+    waits: &Waits,
+    numbers: &NumberTable,
     run: u8,
     c: Context,
     a: Call,

@@ -3,11 +3,13 @@
 ghost use mathlib.Core.Path.{_≡_};
 ghost use Rattle.model.specs.Row.{turned, row, firstOf, withRow, relisted, bestFrom};
 ghost use Rattle.queues.specs.Queues.{queuesOf};
+use crate::Levels;
+use crate::Waits;
 use crate::queue_at;
 
 // ---- levels
 // The first task of the best level that is not empty, or 0.
-pub fn best(levels: &[u8; 744]) -> u8
+pub fn best(levels: &Levels) -> u8
     ensures { λ r. ⌜ r ≡ bestFrom 30 1 (queuesOf 31 (now (levels .entry))) ⌝ }
 {
     let ls: &[u8] = levels;
@@ -15,7 +17,7 @@ pub fn best(levels: &[u8; 744]) -> u8
 }
 
 // A task leaves level f and goes last in level g.
-pub fn relist_levels(levels: &mut [u8; 744], f: usize, g: usize, t: u8)
+pub fn relist_levels(levels: &mut Levels, f: usize, g: usize, t: u8)
     ensures { λ r. ⌜ queuesOf 31 (now (levels .exit)) ≡ relisted (queuesOf 31 (now (levels .entry))) f g t ⌝ }
 {
     let ls: &mut [u8] = levels;
@@ -23,7 +25,7 @@ pub fn relist_levels(levels: &mut [u8; 744], f: usize, g: usize, t: u8)
 }
 
 // The first of a level becomes last.
-pub fn turn_level(levels: &mut [u8; 744], l: usize)
+pub fn turn_level(levels: &mut Levels, l: usize)
     ensures { λ r. ⌜ queuesOf 31 (now (levels .exit)) ≡ withRow (queuesOf 31 (now (levels .entry))) l (turned (row (queuesOf 31 (now (levels .entry))) l)) ⌝ }
 {
     let ls: &mut [u8] = levels;
@@ -32,7 +34,7 @@ pub fn turn_level(levels: &mut [u8; 744], l: usize)
 
 // ---- waits
 // The task that stands first in a row, or 0.
-pub fn first_waiter(waits: &[u8; 504], l: usize) -> u8
+pub fn first_waiter(waits: &Waits, l: usize) -> u8
     ensures { λ r. ⌜ r ≡ firstOf (queuesOf 21 (now (waits .entry))) l ⌝ }
 {
     let ls: &[u8] = waits;
@@ -40,7 +42,7 @@ pub fn first_waiter(waits: &[u8; 504], l: usize) -> u8
 }
 
 // A task leaves row f and goes last in row g.
-pub fn relist_waits(waits: &mut [u8; 504], f: usize, g: usize, t: u8)
+pub fn relist_waits(waits: &mut Waits, f: usize, g: usize, t: u8)
     ensures { λ r. ⌜ queuesOf 21 (now (waits .exit)) ≡ relisted (queuesOf 21 (now (waits .entry))) f g t ⌝ }
 {
     let ls: &mut [u8] = waits;
@@ -48,7 +50,7 @@ pub fn relist_waits(waits: &mut [u8; 504], f: usize, g: usize, t: u8)
 }
 
 // A row as it stands; a number that names none has zeros.
-pub fn waiters(waits: &[u8; 504], l: u8) -> [u8; 24]
+pub fn waiters(waits: &Waits, l: u8) -> [u8; 24]
     ensures { λ r. ⌜ r ≡ row (queuesOf 21 (now (waits .entry))) l ⌝ }
 {
     let ls: &[u8] = waits;

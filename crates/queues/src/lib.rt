@@ -11,6 +11,11 @@ use model::Queue;
 
 pub mod lent;
 
+// The two tables: 24 places for each level, and for each row of waits.
+pub type Levels = [u8; 744];
+
+pub type Waits = [u8; 504];
+
 // ---- one queue of a table that has it. Its length is said too, since a caller can't see it.
 fn put_queue(flat: &mut [u8], l: u8, q: Queue)
     requires { ⌜ l * 24 + 24 ≤ length (now flat) ⌝ }
@@ -40,7 +45,7 @@ pub(crate) fn queue_at(flat: &[u8], l: u8) -> Queue
 }
 
 // ---- the levels go into their table,
-pub fn spread_levels(flat: &mut [u8; 744], qs: [Queue; 31])
+pub fn spread_levels(flat: &mut Levels, qs: [Queue; 31])
     ensures { λ r. ⌜ queuesOf 31 (now (flat .exit)) ≡ qs ⌝ }
 {
     let f: &mut [u8] = flat;
@@ -52,7 +57,7 @@ pub fn spread_levels(flat: &mut [u8; 744], qs: [Queue; 31])
 }
 
 // and come out of it;
-pub fn gather_levels(flat: &[u8; 744]) -> [Queue; 31]
+pub fn gather_levels(flat: &Levels) -> [Queue; 31]
     ensures { λ r. ⌜ r ≡ queuesOf 31 (now (flat .entry)) ⌝ }
 {
     let f: &[u8] = flat;
@@ -67,7 +72,7 @@ pub fn gather_levels(flat: &[u8; 744]) -> [Queue; 31]
 }
 
 // ---- so do the waits.
-pub fn spread_waits(flat: &mut [u8; 504], qs: [Queue; 21])
+pub fn spread_waits(flat: &mut Waits, qs: [Queue; 21])
     ensures { λ r. ⌜ queuesOf 21 (now (flat .exit)) ≡ qs ⌝ }
 {
     let f: &mut [u8] = flat;
@@ -78,7 +83,7 @@ pub fn spread_waits(flat: &mut [u8; 504], qs: [Queue; 21])
     }
 }
 
-pub fn gather_waits(flat: &[u8; 504]) -> [Queue; 21]
+pub fn gather_waits(flat: &Waits) -> [Queue; 21]
     ensures { λ r. ⌜ r ≡ queuesOf 21 (now (flat .entry)) ⌝ }
 {
     let f: &[u8] = flat;

@@ -6,6 +6,7 @@ ghost use Rattle.model.specs.Flag.{isFlagAttributes};
 ghost use Rattle.model.specs.Test.{isFlagSound, isUnmet};
 ghost use Rattle.queues.specs.Queues.{queuesOf};
 use model::Wait;
+use queues::Waits;
 use records::FLAG;
 
 fn is_flag_attributes(attributes: u32) -> bool
@@ -31,7 +32,7 @@ pub(crate) fn is_unmet(w: Wait, bits: u32) -> bool
 }
 
 // The task that stands second in a row of the table of waits, or 0.
-pub(crate) fn second_waiter(waits: &[u8; 504], l: usize) -> u8
+pub(crate) fn second_waiter(waits: &Waits, l: usize) -> u8
     ensures { λ r. ⌜ r ≡ secondOf (queuesOf 21 (now (waits .entry))) l ⌝ }
 {
     // as a slice, which tells the prover how long it is

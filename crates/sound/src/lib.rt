@@ -10,13 +10,18 @@ ghost use Rattle.tables.specs.Lent.{before};
 ghost use Rattle.sound.specs.Parts.{rateAt, countAt, flagAt, seenIn};
 use crossing::cross_all;
 use model::State;
+use numbers::NumberTable;
 use numbers::attributes_at;
 use numbers::bits_at;
 use numbers::charge_at;
 use numbers::count_at;
 use numbers::maximum_at;
 use numbers::slice_at;
+use queues::Levels;
+use queues::Waits;
 use queues::lent::first_waiter;
+use stored::Bytes;
+use stored::Words;
 
 pub mod flag;
 pub mod record;
@@ -31,7 +36,7 @@ struct Seen {
     rows: [u8; 25],
 }
 
-fn look(bytes: &[u8; 250], words: &[u32; 75], numbers: &[u32; 107]) -> Seen
+fn look(bytes: &Bytes, words: &Words, numbers: &NumberTable) -> Seen
     ensures { λ r. ⌜ r ≡ seenIn (tasksOf (now (bytes .entry)) (now (words .entry))) (heldIn (now (numbers .entry)) .bits) ⌝ }
 {
     let mut sound = true;
@@ -62,7 +67,7 @@ fn look(bytes: &[u8; 250], words: &[u32; 75], numbers: &[u32; 107]) -> Seen
 }
 
 // ---- slices, counts and flags
-fn rates_sound(numbers: &[u32; 107]) -> bool
+fn rates_sound(numbers: &NumberTable) -> bool
     ensures { λ r. ⌜ r ≡ below 31 (rateAt (heldIn (now (numbers .entry)))) ⌝ }
 {
     let mut sound = true;
@@ -77,7 +82,7 @@ fn rates_sound(numbers: &[u32; 107]) -> bool
     sound
 }
 
-fn counts_sound(numbers: &[u32; 107], waits: &[u8; 504]) -> bool
+fn counts_sound(numbers: &NumberTable, waits: &Waits) -> bool
     ensures { λ r. ⌜ r ≡ below 13 (countAt (heldIn (now (numbers .entry))) (queuesOf 21 (now (waits .entry)))) ⌝ }
 {
     let mut sound = true;
@@ -93,7 +98,7 @@ fn counts_sound(numbers: &[u32; 107], waits: &[u8; 504]) -> bool
     sound
 }
 
-fn flags_sound(numbers: &[u32; 107], waits: &[u8; 504]) -> bool
+fn flags_sound(numbers: &NumberTable, waits: &Waits) -> bool
     ensures { λ r. ⌜ r ≡ below 9 (flagAt (heldIn (now (numbers .entry))) (queuesOf 21 (now (waits .entry)))) ⌝ }
 {
     let mut sound = true;
@@ -113,11 +118,11 @@ fn flags_sound(numbers: &[u32; 107], waits: &[u8; 504]) -> bool
 
 // ---- the state
 pub fn sound_in(
-    bytes: &[u8; 250],
-    words: &[u32; 75],
-    levels: &[u8; 744],
-    waits: &[u8; 504],
-    numbers: &[u32; 107],
+    bytes: &Bytes,
+    words: &Words,
+    levels: &Levels,
+    waits: &Waits,
+    numbers: &NumberTable,
 ) -> bool
     ensures { λ r. ⌜ r ≡ isSound (before bytes words levels waits numbers) ⌝ }
 {

@@ -8,8 +8,13 @@ ghost use Rattle.stored.specs.Stored.{recordAt, hasTen, hasThree, withOw
 use model::Task;
 use model::Wait;
 
+// The two tables: ten bytes for each task, task 0 first, and three words, all tasks' first words first.
+pub type Bytes = [u8; 250];
+
+pub type Words = [u32; 75];
+
 // The record of a task; a number that names none has zeros.
-pub fn record_at(bytes: &[u8; 250], words: &[u32; 75], t: usize) -> Task
+pub fn record_at(bytes: &Bytes, words: &Words, t: usize) -> Task
     ensures { λ r. ⌜ r ≡ getD (tasksOf (now (bytes .entry)) (now (words .entry))) t noTask ⌝ }
 {
     if 24 < t {
@@ -19,7 +24,7 @@ pub fn record_at(bytes: &[u8; 250], words: &[u32; 75], t: usize) -> Task
 }
 
 // It reads the places of one task that is there.
-fn record_in(bytes: &[u8; 250], words: &[u32; 75], t: usize) -> Task
+fn record_in(bytes: &Bytes, words: &Words, t: usize) -> Task
     requires { ⌜ t < 25 ⌝ }
     ensures { λ r. ⌜ r ≡ recordAt (now (bytes .entry)) (now (words .entry)) t ⌝ }
 {
@@ -45,7 +50,7 @@ fn record_in(bytes: &[u8; 250], words: &[u32; 75], t: usize) -> Task
 }
 
 // A task's record is replaced; a number that names none changes nothing.
-pub fn put_record(bytes: &mut [u8; 250], words: &mut [u32; 75], t: usize, x: Task)
+pub fn put_record(bytes: &mut Bytes, words: &mut Words, t: usize, x: Task)
     ensures { λ r. ⌜ tasksOf (now (bytes .exit)) (now (words .exit)) ≡ set (tasksOf (now (bytes .entry)) (now (words .entry))) t x ⌝ }
 {
     if 24 < t {
@@ -94,7 +99,7 @@ fn put_words(w: &mut [u32], t: usize, x: Task)
 }
 
 // What is left of a task's timeout is replaced, and nothing else of its record. The bytes are there to say so: no byte is read.
-pub fn put_remaining(bytes: &[u8; 250], words: &mut [u32; 75], t: usize, left: u32)
+pub fn put_remaining(bytes: &Bytes, words: &mut Words, t: usize, left: u32)
     ensures { λ r. ⌜ tasksOf (now (bytes .entry)) (now (words .exit)) ≡ set (tasksOf (now (bytes .entry)) (now (words .entry))) t (withRemaining (getD (tasksOf (now (bytes .entry)) (now (words .entry))) t noTask) left) ⌝ }
 {
     if 24 < t {
@@ -105,7 +110,7 @@ pub fn put_remaining(bytes: &[u8; 250], words: &mut [u32; 75], t: usize, left: u
 }
 
 // A table of records goes into the two tables,
-pub fn spread(bytes: &mut [u8; 250], words: &mut [u32; 75], tasks: [Task; 25])
+pub fn spread(bytes: &mut Bytes, words: &mut Words, tasks: [Task; 25])
     ensures { λ r. ⌜ tasksOf (now (bytes .exit)) (now (words .exit)) ≡ tasks ⌝ }
 {
     let mut t: usize = 0;
@@ -116,7 +121,7 @@ pub fn spread(bytes: &mut [u8; 250], words: &mut [u32; 75], tasks: [Task; 25])
 }
 
 // and comes out of them.
-pub fn gather(bytes: &[u8; 250], words: &[u32; 75]) -> [Task; 25]
+pub fn gather(bytes: &Bytes, words: &Words) -> [Task; 25]
     ensures { λ r. ⌜ r ≡ tasksOf (now (bytes .entry)) (now (words .entry)) ⌝ }
 {
     let none = records::no_task();

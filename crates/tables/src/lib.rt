@@ -7,14 +7,19 @@ ghost use Rattle.tables.specs.Seen.{semaphoreIn, flagIn};
 use model::Flag;
 use model::Semaphore;
 use model::State;
+use numbers::NumberTable;
+use queues::Levels;
+use queues::Waits;
 use queues::lent::first_waiter;
+use stored::Bytes;
+use stored::Words;
 
 pub fn spread(
-    bytes: &mut [u8; 250],
-    words: &mut [u32; 75],
-    levels: &mut [u8; 744],
-    waits: &mut [u8; 504],
-    numbers: &mut [u32; 107],
+    bytes: &mut Bytes,
+    words: &mut Words,
+    levels: &mut Levels,
+    waits: &mut Waits,
+    numbers: &mut NumberTable,
     s: State,
 )
     ensures { λ r. ⌜ after bytes words levels waits numbers ≡ s ⌝ }
@@ -30,11 +35,11 @@ pub fn spread(
 }
 
 pub fn gather(
-    bytes: &[u8; 250],
-    words: &[u32; 75],
-    levels: &[u8; 744],
-    waits: &[u8; 504],
-    numbers: &[u32; 107],
+    bytes: &Bytes,
+    words: &Words,
+    levels: &Levels,
+    waits: &Waits,
+    numbers: &NumberTable,
 ) -> State
     ensures { λ r. ⌜ r ≡ before bytes words levels waits numbers ⌝ }
 {
@@ -52,7 +57,7 @@ pub fn gather(
 
 // ---- what a call looks at
 // The semaphore that a call names.
-pub fn semaphore_at(waits: &[u8; 504], numbers: &[u32; 107], m: usize) -> Semaphore
+pub fn semaphore_at(waits: &Waits, numbers: &NumberTable, m: usize) -> Semaphore
     ensures { λ r. ⌜ r ≡ semaphoreIn (now (waits .entry)) (now (numbers .entry)) m ⌝ }
 {
     Semaphore {
@@ -73,7 +78,7 @@ fn flag_row(f: usize) -> usize
 }
 
 // The flag that a call names.
-pub fn flag_at(waits: &[u8; 504], numbers: &[u32; 107], f: usize) -> Flag
+pub fn flag_at(waits: &Waits, numbers: &NumberTable, f: usize) -> Flag
     ensures { λ r. ⌜ r ≡ flagIn (now (waits .entry)) (now (numbers .entry)) f ⌝ }
 {
     Flag {

@@ -8,6 +8,11 @@ ghost use Rattle.walk.specs.Turn.{turnIn, turnOf};
 use kernel::Stepped;
 use lines::line::Line;
 use lines::line::read_line;
+use numbers::NumberTable;
+use queues::Levels;
+use queues::Waits;
+use stored::Bytes;
+use stored::Words;
 
 // A line that reads: its answer, and where the next line begins.
 pub enum Turn {
@@ -17,11 +22,11 @@ pub enum Turn {
 
 // The line that begins at `at`, where `run` runs; past the file's end there is none.
 pub fn play_line(
-    bytes: &mut [u8; 250],
-    words: &mut [u32; 75],
-    levels: &mut [u8; 744],
-    waits: &mut [u8; 504],
-    numbers: &mut [u32; 107],
+    bytes: &mut Bytes,
+    words: &mut Words,
+    levels: &mut Levels,
+    waits: &mut Waits,
+    numbers: &mut NumberTable,
     run: u8,
     file: &[u8],
     wide: bool,
