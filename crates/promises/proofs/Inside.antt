@@ -14,6 +14,7 @@ use Rattle.plans_semaphore.proofs as plans_semaphore
 use Rattle.plans_flag.proofs as plans_flag
 use Rattle.plans.proofs as plans
 use Rattle.crossing.proofs as crossing
+use Rattle.sound_parts.proofs as sound_parts
 use Rattle.sound.proofs as sound
 use Rattle.effects.proofs as effects
 use Rattle.carry.proofs as carry
@@ -164,6 +165,17 @@ of-plans =
 pub of-crossing : List Promise
 of-crossing =
     of crossing.cross_all.signature (λ M. crossing.cross_all.clauses) (λ M. crossing.cross_all.Met.met) (λ w κs a g h o p. plain w result) ∷
+    []
+
+pub of-sound_parts : List Promise
+of-sound_parts =
+    of sound_parts.flag.flag_sound.signature (λ M. sound_parts.flag.flag_sound.clauses) (λ M. sound_parts.flag.flag_sound.Met.met) (λ w κs a g h o p. plain w result) ∷
+    of sound_parts.flag.is_unmet.signature (λ M. sound_parts.flag.is_unmet.clauses) (λ M. sound_parts.flag.is_unmet.Met.met) (λ w κs a g h o p. plain w result) ∷
+    of sound_parts.flag.second_waiter.signature (λ M. sound_parts.flag.second_waiter.clauses) (λ M. sound_parts.flag.second_waiter.Met.met) (λ w κs a g h o p. plain w result) ∷
+    of sound_parts.record.task_sound.signature (λ M. sound_parts.record.task_sound.clauses) (λ M. sound_parts.record.task_sound.Met.met) (λ w κs a g h o p. plain w result) ∷
+    of sound_parts.record.rate_sound.signature (λ M. sound_parts.record.rate_sound.clauses) (λ M. sound_parts.record.rate_sound.Met.met) (λ w κs a g h o p. plain w result) ∷
+    of sound_parts.record.count_sound.signature (λ M. sound_parts.record.count_sound.clauses) (λ M. sound_parts.record.count_sound.Met.met) (λ w κs a g h o p. plain w result) ∷
+    of sound_parts.record.is_origin.signature (λ M. sound_parts.record.is_origin.clauses) (λ M. sound_parts.record.is_origin.Met.met) (λ w κs a g h o p. plain w result) ∷
     []
 
 pub of-sound : List Promise

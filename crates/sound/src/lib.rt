@@ -1,5 +1,5 @@
 // The test that the public entries make of any state: whether it is sound. Each record is read once, each place of a queue three times at most.
-// Each function is a definition of model/specs/Test, for every value; it rests on record and flag for single places, on crossing for
+// Each function is a definition of model/specs/Test, for every value; it rests on sound_parts for single places, on crossing for
 // queues, and on the tables that it is lent.
 ghost use mathlib.Core.Path.{_≡_};
 ghost use Rattle.model.specs.Test.{below, isSound};
@@ -23,9 +23,6 @@ use queues::lent::first_waiter;
 use stored::Bytes;
 use stored::Words;
 
-pub mod flag;
-pub mod record;
-
 // ---- records
 // What a walk over the records sees: whether each is sound, whether no wait on a flag is met already, and which level and which row list
 // each task.
@@ -48,8 +45,8 @@ fn look(bytes: &Bytes, words: &Words, numbers: &NumberTable) -> Seen
         let x = stored::record_at(bytes, words, t);
         let wait = x.wait;
         let bits = bits_at(numbers, wait.object as usize);
-        let sound_here = record::task_sound(x);
-        let unmet_here = flag::is_unmet(wait, bits);
+        let sound_here = sound_parts::record::task_sound(x);
+        let unmet_here = sound_parts::flag::is_unmet(wait, bits);
         let level = records::level_of(x);
         let row = records::row_of(x);
         sound = sound_here & sound;
@@ -75,7 +72,7 @@ fn rates_sound(numbers: &NumberTable) -> bool
     while l < 31 {
         let slice = slice_at(numbers, l);
         let charge = charge_at(numbers, l);
-        let here = record::rate_sound(slice, charge);
+        let here = sound_parts::record::rate_sound(slice, charge);
         sound = here & sound;
         l += 1;
     }
@@ -91,7 +88,7 @@ fn counts_sound(numbers: &NumberTable, waits: &Waits) -> bool
         let count = count_at(numbers, m);
         let maximum = maximum_at(numbers, m);
         let first = first_waiter(waits, m);
-        let here = record::count_sound(count, maximum, first);
+        let here = sound_parts::record::count_sound(count, maximum, first);
         sound = here & sound;
         m += 1;
     }
@@ -108,8 +105,8 @@ fn flags_sound(numbers: &NumberTable, waits: &Waits) -> bool
         let attributes = attributes_at(numbers, f as usize);
         let bits = bits_at(numbers, f as usize);
         let first = first_waiter(waits, row);
-        let second = flag::second_waiter(waits, row);
-        let here = flag::flag_sound(attributes, bits, first, second);
+        let second = sound_parts::flag::second_waiter(waits, row);
+        let here = sound_parts::flag::flag_sound(attributes, bits, first, second);
         sound = here & sound;
         f += 1;
     }
@@ -137,7 +134,7 @@ pub fn sound_in(
     let maximum = maximum_at(numbers, 0);
     let attributes = attributes_at(numbers, 0);
     let bits = bits_at(numbers, 0);
-    let origin = record::is_origin(x, slice, charge, count, maximum, attributes, bits);
+    let origin = sound_parts::record::is_origin(x, slice, charge, count, maximum, attributes, bits);
     let seen = look(bytes, words, numbers);
     let rates = rates_sound(numbers);
     let counts = counts_sound(numbers, waits);

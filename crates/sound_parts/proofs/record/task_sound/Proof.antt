@@ -1,0 +1,38 @@
+-- `sound_parts::record::task_sound` meets its contract: by whether the task is created, and test by test.
+-- Rests on model/specs/Test.
+use mathlib.Core.Bool.{and-assoc}
+use borrow.Author.Tests.{eq-eqb, ne-eqb}
+use Rattle.model.specs.Test.{isTaskSound}
+use borrow.Author.Needs.{needs}
+use Rattle.sound_parts.proofs.record.task_sound.Statement.{statement}
+use Rattle.sound_parts.proofs.record.task_sound.Tie as tie
+
+returns : tie.Need-returns
+unfolding isTaskSound
+returns c = rw (c .is-blank .ensures, eq-eqb _ _ (c .before .if1 .taken))
+
+returns-2 : tie.Need-returns-2
+unfolding isTaskSound
+returns-2 c = simp and-assoc (rw (
+  c .is-ask-sound .ensures,
+  c .before .before .is-wait-sound .ensures,
+  c .before .before .before .is-resting .ensures,
+  c .before .before .before .before .is-wait-code .ensures,
+  c .before .before .before .before .before .is-within2 .ensures,
+  c .before .before .before .before .before .before .is-within .ensures,
+  ne-eqb _ _ (c .before .before .before .before .before .before .before .if1 .left),
+))
+
+pub task-sound-spec : {M : Type 1} → statement M
+task-sound-spec =
+    tie.close
+    (tie.spec
+    (λ c κs. search needs)
+    returns
+    (λ c κs. search needs)
+    (λ c κs. search needs)
+    (λ c κs. search needs)
+    (λ c κs. search needs)
+    (λ c κs. search needs)
+    (λ c κs. search needs)
+    returns-2)
