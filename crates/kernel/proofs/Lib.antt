@@ -1,1 +1,1 @@
-pub mod Stepping
+mod Calling

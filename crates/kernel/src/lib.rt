@@ -1,11 +1,10 @@
-// Every call: the plan from the records it looks at, then its effect on the tables. The step stands once, over lent tables,
-// for a caller that knows its state to be sound; `call` takes and gives a state by value, and tests it first.
+// The checked call: it takes and gives a state by value, and tests it before it steps. Beside it the fresh state, and who runs.
+// Rests on the step and on the test of soundness.
 ghost use mathlib.Core.Path.{_≡_};
 ghost use Rattle.model.specs.State.{fresh, running};
-ghost use Rattle.model.specs.declared.Call.the-variants.{TickIntProcessing};
-ghost use Rattle.model.specs.Call.{stepFrom, call};
+ghost use Rattle.model.specs.Call.{call};
 ghost use Rattle.tables.specs.Lent.{before, after};
-ghost use Rattle.kernel.specs.Answer.{answerOf};
+ghost use Rattle.step.specs.Answer.{answerOf};
 use model::Answer;
 use model::Call;
 use model::Code;
@@ -17,6 +16,8 @@ use numbers::NumberTable;
 use queues::Levels;
 use queues::Waits;
 use queues::lent::best;
+use step::Stepped;
+use step::step_in;
 use stored::Bytes;
 use stored::Words;
 
@@ -51,70 +52,6 @@ pub fn running(s: State) -> u8
     let mut levels = [0u8; 744];
     queues::spread_levels(&mut levels, qs);
     best(&levels)
-}
-
-// What a step answers, beside the tables it was lent.
-pub struct Stepped {
-    pub code: Code,
-    pub running: u8,
-    pub value: u32,
-}
-
-// A tick looks at no record, so it goes a way of its own.
-fn tick_in(
-    bytes: &mut Bytes,
-    words: &mut Words,
-    levels: &mut Levels,
-    waits: &mut Waits,
-    numbers: &mut NumberTable,
-    run: u8,
-    c: Context,
-) -> Stepped
-    ensures { λ r. ⌜ answerOf r (after bytes words levels waits numbers) ≡ stepFrom run (before bytes words levels waits numbers) c TickIntProcessing ⌝ }
-{
-    let mine = plans::in_i(c);
-    if !mine {
-        return Stepped {
-            code: Code::WContext,
-            running: best(levels),
-            value: 0,
-        };
-    }
-    carry::tick(bytes, words, levels, waits, numbers, run);
-    Stepped {
-        code: Code::NoErr,
-        running: best(levels),
-        value: 0,
-    }
-}
-
-// The step where `run` runs: whoever takes step after step knows that from the last one.
-pub fn step_in(
-    bytes: &mut Bytes,
-    words: &mut Words,
-    levels: &mut Levels,
-    waits: &mut Waits,
-    numbers: &mut NumberTable,
-    run: u8,
-    c: Context,
-    a: Call,
-) -> Stepped
-    ensures { λ r. ⌜ answerOf r (after bytes words levels waits numbers) ≡ stepFrom run (before bytes words levels waits numbers) c a ⌝ }
-{
-    if let Call::TickIntProcessing = a {
-        return tick_in(bytes, words, levels, waits, numbers, run, c);
-    }
-    let p = plans::plan_in(bytes, words, levels, waits, numbers, run, c, a);
-    let code = p.code;
-    let value = p.value;
-    let effect = p.effect;
-    carry::carry(bytes, words, levels, waits, numbers, run, effect);
-    let running = best(levels);
-    Stepped {
-        code,
-        running,
-        value,
-    }
 }
 
 // The checked call on the tables: a state that is not sound gets UNSOUND and task 0, and stays as it was.

@@ -18,6 +18,7 @@ use Rattle.sound_parts.proofs as sound_parts
 use Rattle.sound.proofs as sound
 use Rattle.effects.proofs as effects
 use Rattle.carry.proofs as carry
+use Rattle.step.proofs as step
 use Rattle.kernel.proofs as kernel
 use Rattle.promises.specs.Tight.{Promise}
 use Rattle.promises.proofs.Laws as laws
@@ -199,10 +200,14 @@ of-carry =
     typed carry.carry.signature (λ M. carry.carry.clauses) (λ M. carry.carry.Met.met) (λ w κs a g h o p. given w (λ i j. five (λ s. s) (λ b v l q n s. (tt, (b, (v, (l, (q, (n, _))))))) i j refl refl)) ∷
     []
 
+pub of-step : List Promise
+of-step =
+    typed step.step_in.signature (λ M. step.step_in.clauses) (λ M. step.step_in.Met.met) (λ w κs a g h o p. given w (λ i j. five (λ r. r .state) (λ b v l q n s. (record { code = s .code; running = s .running; value = s .value }, (b, (v, (l, (q, (n, _))))))) i j refl refl)) ∷
+    []
+
 pub of-kernel : List Promise
 of-kernel =
     of kernel.fresh.signature (λ M. kernel.fresh.clauses) (λ M. kernel.fresh.Met.met) (λ w κs a g h o p. plain w result) ∷
     of kernel.running.signature (λ M. kernel.running.clauses) (λ M. kernel.running.Met.met) (λ w κs a g h o p. plain w result) ∷
-    typed kernel.step_in.signature (λ M. kernel.step_in.clauses) (λ M. kernel.step_in.Met.met) (λ w κs a g h o p. given w (λ i j. five (λ r. r .state) (λ b v l q n s. (record { code = s .code; running = s .running; value = s .value }, (b, (v, (l, (q, (n, _))))))) i j refl refl)) ∷
     of kernel.call.signature (λ M. kernel.call.clauses) (λ M. kernel.call.Met.met) (λ w κs a g h o p. plain w result) ∷
     []

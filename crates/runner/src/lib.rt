@@ -1,5 +1,5 @@
 // The runner: a file of calls and an answer buffer in, one number out. Every call is worked once, its code and running task are kept,
-// and the answer is written only when all lines were read and all of it fits. Rests on the line reader and the kernel's step.
+// and the answer is written only when all lines were read and all of it fits. Rests on the line reader and the step.
 ghost use mathlib.Core.Path.{_≡_};
 ghost use Prim.Native.Nat.{_+_, _≤_};
 ghost use mathlib.Core.List.{_++_};
@@ -126,7 +126,7 @@ fn play(file: &[u8], wide: bool, h: usize) -> Played
                 runs,
             };
         };
-        let answer = kernel::step_in(
+        let answer = step::step_in(
             &mut bytes,
             &mut words,
             &mut levels,

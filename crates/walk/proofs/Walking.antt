@@ -14,8 +14,8 @@ use Rattle.model.specs.Row.{row, bestFrom}
 use Rattle.model.specs.Task.{noTask}
 use Rattle.model.specs.State.{fresh, running}
 use Rattle.model.specs.Call.{stepFrom, step}
-use Rattle.kernel.specs.declared.Stepped.{Stepped}
-use Rattle.kernel.proofs.Stepping.{step-from, runs-on}
+use Rattle.step.specs.declared.Stepped.{Stepped}
+use Rattle.step.proofs.Stepping.{step-from, runs-on}
 use Rattle.stored.specs.Stored.{recordsFrom, tasksOf}
 use Rattle.numbers.specs.Numbers.{part}
 use Rattle.rows.specs.Flat.{rowIn}

@@ -5,7 +5,7 @@ use Rattle.model.specs.declared.State.{State}
 use Rattle.model.specs.declared.Answer.{Answer}
 use Rattle.lines.specs.declared.line.Line.{Line}
 use Rattle.lines.specs.declared.line.Line.the-variants.{Reads, Unreadable}
-use Rattle.kernel.specs.declared.Stepped.{Stepped}
+use Rattle.step.specs.declared.Stepped.{Stepped}
 use Rattle.model.specs.Call.{stepFrom}
 use Rattle.walk.specs.declared.Turn.{Turn}
 use Rattle.walk.specs.declared.Turn.the-variants.{Plays, Faults}

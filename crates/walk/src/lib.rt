@@ -5,12 +5,12 @@ ghost use lib.ListN.{drop};
 ghost use Rattle.lines.specs.Lines.{lineOf};
 ghost use Rattle.tables.specs.Lent.{before, after};
 ghost use Rattle.walk.specs.Turn.{turnIn, turnOf};
-use kernel::Stepped;
 use lines::line::Line;
 use lines::line::read_line;
 use numbers::NumberTable;
 use queues::Levels;
 use queues::Waits;
+use step::Stepped;
 use stored::Bytes;
 use stored::Words;
 
@@ -45,7 +45,7 @@ pub fn play_line(
     else {
         return Turn::Faults;
     };
-    let answer = kernel::step_in(bytes, words, levels, waits, numbers, run, context, call);
+    let answer = step::step_in(bytes, words, levels, waits, numbers, run, context, call);
     Turn::Plays {
         answer,
         next: at + next,

@@ -1,8 +1,8 @@
 -- `kernel::call` meets its contract: into the tables and out of them.
 use mathlib.Core.Path.{ap, _∙_}
-use Rattle.kernel.specs.Answer.{answerOf}
+use Rattle.step.specs.Answer.{answerOf}
 use Rattle.tables.specs.Lent.{stateIn}
-use Rattle.kernel.proofs.Stepping as law
+use Rattle.kernel.proofs.Calling as law
 use borrow.Author.Needs.{needs}
 use Rattle.kernel.proofs.call.Statement.{statement}
 use Rattle.kernel.proofs.call.Tie as tie

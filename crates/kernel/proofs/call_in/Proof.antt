@@ -1,5 +1,5 @@
 -- `kernel::call_in` meets its contract: a state that passes the test is stepped, any other is refused.
-use Rattle.kernel.proofs.Stepping as law
+use Rattle.kernel.proofs.Calling as law
 use borrow.Author.Needs.{needs}
 use Rattle.kernel.proofs.call_in.Statement.{statement}
 use Rattle.kernel.proofs.call_in.Tie as tie

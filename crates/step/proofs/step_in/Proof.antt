@@ -1,9 +1,9 @@
--- `kernel::step_in` meets its contract: a tick, or the plan and then its effect.
+-- `step::step_in` meets its contract: a tick, or the plan and then its effect.
 use Rattle.tables.specs.Lent.{stateIn}
-use Rattle.kernel.proofs.Stepping as law
+use Rattle.step.proofs.Stepping as law
 use borrow.Author.Needs.{needs}
-use Rattle.kernel.proofs.step_in.Statement.{statement}
-use Rattle.kernel.proofs.step_in.Tie as tie
+use Rattle.step.proofs.step_in.Statement.{statement}
+use Rattle.step.proofs.step_in.Tie as tie
 
 returns : tie.Need-returns
 returns c = rw (c .before .before .before .before .before .before .enum-told .given .1) (c .tick-in .ensures)

@@ -1,4 +1,4 @@
--- A step over lent tables, from what its parts say: who runs, the records looked at, the plan, and its effect; and a call from its step.
+-- A step over lent tables, from what its parts say: who runs, the records looked at, the plan, and its effect.
 -- Rests on the definitions of model/specs/Call alone.
 use mathlib.Core.Path.{_≡_, refl, sym, ap, _∙_}
 use mathlib.Core.Bool.{Bool, true, false, not}
@@ -11,14 +11,13 @@ use Rattle.model.specs.declared.Plan.{Plan}
 use Rattle.model.specs.declared.Answer.{Answer}
 use Rattle.model.specs.declared.Context.the-variants.{I}
 use Rattle.model.specs.declared.Call.the-variants.{TickIntProcessing}
-use Rattle.model.specs.declared.Code.the-variants.{NoErr, WContext, Unsound}
+use Rattle.model.specs.declared.Code.the-variants.{NoErr, WContext}
 use Rattle.model.specs.Row.{bestFrom}
 use Rattle.model.specs.State.{running}
 use Rattle.model.specs.Service.{tick}
 use Rattle.model.specs.Services.{service, services, tasks, system, semaphores, flags, same, isMine}
 use Rattle.model.specs.Effect.{tickedFrom, carriedFrom, carried}
-use Rattle.model.specs.Call.{plan, plannedFrom, planned, stepFrom, step, call}
-use Rattle.model.specs.Test.{isSound}
+use Rattle.model.specs.Call.{plan, plannedFrom, planned, stepFrom, step}
 
 pub stepped : (s : State) (c : Context) (a : Call) (run : ℕ) (p : Plan) (s₁ : State) (run₁ : ℕ)
     → p ≡ plannedFrom run s c a → s₁ ≡ carriedFrom run s (p .effect) → run₁ ≡ bestFrom 30 1 (s₁ .levels)
@@ -35,22 +34,6 @@ module _ (run : ℕ) (s : State) (c : Context) (mine : Bool) (e : mine ≡ same 
   pub tick-passes : (s₁ : State) → not mine ≡ false → s₁ ≡ tickedFrom run s → run₁ ≡ bestFrom 30 1 (s₁ .levels) → record { code = NoErr; running = run₁; value = 0; state = s₁ } ≡ stepFrom run s c TickIntProcessing
   unfolding plan tick isMine service services tasks system semaphores flags running
   tick-passes s₁ h d f = rw (← e, not-false mine h, f, d)
-
--- a call
-module _ (s : State) (c : Context) (a : Call) (sound : Bool) (f : sound ≡ isSound s) where
-  -- a state that is not sound stays as it was
-  pub refused : not sound ≡ true → record { code = Unsound; running = 0; value = 0; state = s } ≡ call s c a
-  unfolding call
-  refused g = rw (← f, not-true sound g)
-
-  -- one that is sound is stepped
-  pub answered : (run : ℕ) (r : Answer) → not sound ≡ false → run ≡ bestFrom 30 1 (s .levels) → r ≡ stepFrom run s c a → r ≡ call s c a
-  unfolding call step planned carried running
-  answered run r g h i = rw (← f, not-false sound g) (rw h at i)
-
--- on the state that the tables stood for
-pub whole : (s z : State) (c : Context) (a : Call) (r : Answer) → z ≡ s → r ≡ call z c a → r ≡ call s c a
-whole s z c a r e f = rw (← e) f
 
 -- where `run` runs, the step is that of the model
 pub step-from : (s : State) (run : ℕ) (c : Context) (a : Call) → run ≡ bestFrom 30 1 (s .levels) → stepFrom run s c a ≡ step s c a

@@ -1,9 +1,9 @@
--- `kernel::tick_in` meets its contract: a tick from a task is refused, any other passes.
+-- `step::tick_in` meets its contract: a tick from a task is refused, any other passes.
 use Rattle.tables.specs.Lent.{stateIn}
-use Rattle.kernel.proofs.Stepping as law
+use Rattle.step.proofs.Stepping as law
 use borrow.Author.Needs.{needs}
-use Rattle.kernel.proofs.tick_in.Statement.{statement}
-use Rattle.kernel.proofs.tick_in.Tie as tie
+use Rattle.step.proofs.tick_in.Statement.{statement}
+use Rattle.step.proofs.tick_in.Tie as tie
 
 returns : tie.Need-returns
 returns c = law.tick-refused _ (stateIn _ _ _ _ _) _ _ (c .before .before .before .in-i .ensures) _ (c .before .before .if1 .taken) (c .best .ensures)
