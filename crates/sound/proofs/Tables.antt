@@ -16,9 +16,9 @@ use Rattle.crossing.specs.Crossing.{crossesAll}
 use Rattle.crossing.proofs.Exactly.{exactly}
 
 -- a test at each number below n, one number further
-pub below-on : (f : ℕ → Bool) (i : ℕ) (here so-far : Bool) → here ≡ f i → so-far ≡ below i f → (here && so-far) ≡ below (i + 1) f
+pub below-on : (f : ℕ → Bool) (i : ℕ) {here so-far : Bool} → here ≡ f i → so-far ≡ below i f → (here && so-far) ≡ below (i + 1) f
 unfolding below
-below-on f i here so-far p q = rw (add-one, p, q)
+below-on f i p q = rw (add-one, p, q)
 
 pub below-none : (f : ℕ → Bool) → true ≡ below 0 f
 unfolding below

@@ -25,7 +25,7 @@ loop-again : tie.Need-loop-again Inv-loop μ-loop
 loop-again c =
     let l = c .before .before .before .before .before .loop in (
       omega arith,
-      below-on _ (l .m) (c .count-sound .result) (l .sound) (c .count-sound .ensures ∙ rw (c .before .before .before .count-at .ensures, c .before .before .maximum-at .ensures, c .before .first-waiter .ensures)) (l .inv .1),
+      below-on _ (l .m) (c .count-sound .ensures ∙ rw (c .before .before .before .count-at .ensures, c .before .before .maximum-at .ensures, c .before .first-waiter .ensures)) (l .inv .1),
     )
 
 returns : tie.Need-returns Inv-loop μ-loop

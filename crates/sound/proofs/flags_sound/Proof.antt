@@ -25,7 +25,7 @@ loop-again : tie.Need-loop-again Inv-loop μ-loop
 loop-again c =
     let l = c .before .before .before .before .before .before .before .loop in (
       omega arith,
-      below-on _ (l .f) (c .flag-sound .result) (l .sound) (c .flag-sound .ensures ∙ rw (c .before .before .before .before .attributes-at .ensures, c .before .before .before .bits-at .ensures, c .before .before .first-waiter .ensures, c .before .second-waiter .ensures, c .before .before .before .before .before .flag-row .ensures)) (l .inv .1),
+      below-on _ (l .f) (c .flag-sound .ensures ∙ rw (c .before .before .before .before .attributes-at .ensures, c .before .before .before .bits-at .ensures, c .before .before .first-waiter .ensures, c .before .second-waiter .ensures, c .before .before .before .before .before .flag-row .ensures)) (l .inv .1),
     )
 
 returns : tie.Need-returns Inv-loop μ-loop

@@ -38,8 +38,8 @@ loop-again c =
       omega arith,
       simp length-set (l .inv .1),
       simp length-set (l .inv .2),
-      below-on _ (l .t) (c .before .before .before .task-sound .result) (l .sound) (c .before .before .before .task-sound .ensures ∙ rw r) (l .inv .3),
-      below-on _ (l .t) (c .before .before .is-unmet .result) (l .unmet) (c .before .before .is-unmet .ensures ∙ rw (c .before .before .before .before .bits-at .ensures, r)) (l .inv .4),
+      below-on _ (l .t) (c .before .before .before .task-sound .ensures ∙ rw r) (l .inv .3),
+      below-on _ (l .t) (c .before .before .is-unmet .ensures ∙ rw (c .before .before .before .before .bits-at .ensures, r)) (l .inv .4),
       rw (c .before .level-of .ensures, r) (fill-on levelOf xs (l .levels) (l .t) _ (omega arith) (omega arith) (l .inv .5)),
       rw (c .row-of .ensures, r) (fill-on rowOf xs (l .rows) (l .t) _ (omega arith) (omega arith) (l .inv .6)),
     )
@@ -48,13 +48,14 @@ returns : tie.Need-returns Inv-loop μ-loop
 returns c =
     let l = c .before .loop in
     let a = c .before .before .args in
+    let xs = tasksOf (a .bytes .now) (a .words .now) in
     let n = length-tasks (a .bytes .now) (a .words .now) in
     let e : l .t ≡ 25 = omega arith in
     rw (
       rw e at (l .inv .3),
       rw e at (l .inv .4),
-      fill-end levelOf (tasksOf (a .bytes .now) (a .words .now)) (l .levels) (l .t) (omega arith) (omega arith) (l .inv .5),
-      fill-end rowOf (tasksOf (a .bytes .now) (a .words .now)) (l .rows) (l .t) (omega arith) (omega arith) (l .inv .6),
+      fill-end levelOf xs (l .levels) (l .t) (omega arith) (omega arith) (l .inv .5),
+      fill-end rowOf xs (l .rows) (l .t) (omega arith) (omega arith) (l .inv .6),
     )
 
 pub look-spec : {M : Type 1} → statement M

@@ -24,7 +24,7 @@ loop-again : tie.Need-loop-again Inv-loop μ-loop
 loop-again c =
     let l = c .before .before .before .before .loop in (
       omega arith,
-      below-on _ (l .l) (c .rate-sound .result) (l .sound) (c .rate-sound .ensures ∙ rw (c .before .before .slice-at .ensures, c .before .charge-at .ensures)) (l .inv .1),
+      below-on _ (l .l) (c .rate-sound .ensures ∙ rw (c .before .before .slice-at .ensures, c .before .charge-at .ensures)) (l .inv .1),
     )
 
 returns : tie.Need-returns Inv-loop μ-loop

@@ -1,36 +1,44 @@
--- `sound::sound_in` meets its contract: the origin, and then the tables, part by part.
+-- `sound::sound_in` meets its contract: the origin, and then the tables, part by part. The steps have names, from the last one back.
 -- Rests on Whole.
 use mathlib.Core.Path.{sym}
 use native.Mathlib.Omega.{arith}
-use Rattle.sound.proofs.Whole.{sound-tested}
 use borrow.Author.Needs.{needs}
+use Rattle.sound.proofs.Whole.{sound-tested}
 use Rattle.sound.proofs.sound_in.Statement.{statement}
 use Rattle.sound.proofs.sound_in.Tie as tie
 
 returns : tie.Need-returns
 returns c =
-    let a = c .before .before .before .before .before .before .before .before .before .before .before .before .before .before .before .before .before .before .before .before .before .args in
+    let waiting = c .before .before in
+    let runnable = waiting .before .before in
+    let flags = runnable .before .before in
+    let seen = flags .before .before .before in
+    let bits = seen .before .before in
+    let count = bits .before .before .before in
+    let x = count .before .before .before in
+    let ls = x .before .before .before in
+    let a = ls .before .args in
     rw (
-      c .before .before .cross-all2 .ensures,
-      c .before .before .before .before .cross-all .ensures,
-      c .before .before .before .before .before .before .flags-sound .ensures,
-      c .before .before .before .before .before .before .before .counts-sound .ensures,
-      c .before .before .before .before .before .before .before .before .rates-sound .ensures,
-      c .before .before .before .before .before .before .before .before .before .look .ensures,
-      c .before .before .before .before .before .before .before .before .before .before .is-origin .ensures,
-      c .before .before .before .before .before .before .before .before .before .before .before .bits-at .ensures,
-      c .before .before .before .before .before .before .before .before .before .before .before .before .attributes-at .ensures,
-      c .before .before .before .before .before .before .before .before .before .before .before .before .before .maximum-at .ensures,
-      c .before .before .before .before .before .before .before .before .before .before .before .before .before .before .count-at .ensures,
-      c .before .before .before .before .before .before .before .before .before .before .before .before .before .before .before .charge-at .ensures,
-      c .before .before .before .before .before .before .before .before .before .before .before .before .before .before .before .before .slice-at .ensures,
-      c .before .before .before .before .before .before .before .before .before .before .before .before .before .before .before .before .before .record-at .ensures,
+      waiting .cross-all2 .ensures,
+      runnable .cross-all .ensures,
+      flags .flags-sound .ensures,
+      flags .before .counts-sound .ensures,
+      flags .before .before .rates-sound .ensures,
+      seen .look .ensures,
+      seen .before .is-origin .ensures,
+      bits .bits-at .ensures,
+      bits .before .attributes-at .ensures,
+      bits .before .before .maximum-at .ensures,
+      count .count-at .ensures,
+      count .before .charge-at .ensures,
+      count .before .before .slice-at .ensures,
+      x .record-at .ensures,
     )
     (sym (
     sound-tested (a .bytes .now) (a .words .now) (a .levels .now) (a .waits .now) (a .numbers .now)
-    (omega (arith, c .before .before .before .before .before .before .before .before .before .before .before .before .before .before .before .before .before .before .before .before .ls .given))
-    (omega (arith, c .before .before .before .before .before .before .before .before .before .before .before .before .before .before .before .before .before .before .before .ws .given))
-    (omega (arith, c .before .before .before .before .before .before .before .before .before .before .before .before .before .before .before .before .before .before .ns .given))
+    (omega (arith, ls .ls .given))
+    (omega (arith, x .before .before .ws .given))
+    (omega (arith, x .before .ns .given))
     ))
 
 pub sound-in-spec : {M : Type 1} → statement M

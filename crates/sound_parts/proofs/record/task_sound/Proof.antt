@@ -1,9 +1,9 @@
 -- `sound_parts::record::task_sound` meets its contract: by whether the task is created, and test by test.
--- Rests on model/specs/Test.
-use mathlib.Core.Bool.{and-assoc}
+-- Rests on Chains.
 use borrow.Author.Tests.{eq-eqb, ne-eqb}
-use Rattle.model.specs.Test.{isTaskSound}
 use borrow.Author.Needs.{needs}
+use Rattle.model.specs.Test.{isTaskSound}
+use Rattle.sound_parts.proofs.Chains.{ten}
 use Rattle.sound_parts.proofs.record.task_sound.Statement.{statement}
 use Rattle.sound_parts.proofs.record.task_sound.Tie as tie
 
@@ -13,7 +13,8 @@ returns c = rw (c .is-blank .ensures, eq-eqb _ _ (c .before .if1 .taken))
 
 returns-2 : tie.Need-returns-2
 unfolding isTaskSound
-returns-2 c = simp and-assoc (rw (
+returns-2 c = rw (
+  ten,
   c .is-ask-sound .ensures,
   c .before .before .is-wait-sound .ensures,
   c .before .before .before .is-resting .ensures,
@@ -21,7 +22,7 @@ returns-2 c = simp and-assoc (rw (
   c .before .before .before .before .before .is-within2 .ensures,
   c .before .before .before .before .before .before .is-within .ensures,
   ne-eqb _ _ (c .before .before .before .before .before .before .before .if1 .left),
-))
+)
 
 pub task-sound-spec : {M : Type 1} → statement M
 task-sound-spec =
