@@ -9,7 +9,7 @@ use lib.Dec.{T as So, ltb→lt}
 use lib.IntN.{ℤ, pos, negsuc}
 use lib.ListN.{length}
 use Rattle.text.specs.Decimal.{decimal}
-use Rattle.text.proofs.Digits.{width-one}
+use Rattle.text.proofs.Digits.{width-one, width-most}
 use Rattle.model.specs.declared.State.{State}
 use Rattle.model.specs.declared.Context.{Context}
 use Rattle.model.specs.declared.Call.{Call}
@@ -22,7 +22,6 @@ use Rattle.ways.proofs.Ways.{step-digit}
 use Rattle.soundness.proofs.Soundness.{sound-stays-sound, refused-is-unchanged}
 use Rattle.soundness.proofs.Running.{runner}
 use Rattle.walk.specs.Rows.{signed}
-use Rattle.runner.proofs.Widths.{width-most}
 
 -- ---- codes
 signed-most : (z : ℤ) → So (oneDigit z) → length (signed z) ≤ 2

@@ -62,6 +62,10 @@ fixed off p q = ap off (p ∙ sym q)
 pub result : {A U : Type 0} {r s d : A} {u : U} → r ≡ d → s ≡ d → _≡_ {A = A × U} (r, u) (s, u)
 result {u = u} = fixed (λ r. (r, u))
 
+-- the same, where a bound of it is promised too
+pub bounded : {A U X Y : Type 0} {r s d : A} {u : U} → (r ≡ d) × X → (s ≡ d) × Y → _≡_ {A = A × U} (r, u) (s, u)
+bounded p q = result (p .0) (q .0)
+
 -- what the first argument holds, where nothing is returned and no other is lent to be changed
 pub buffer : {A U : Type 0} {q s d : A} {u : U} → q ≡ d → s ≡ d → _≡_ {A = Unit {0} × (A × U)} (tt, (q, u)) (tt, (s, u))
 buffer {u = u} = fixed (λ q. (tt, (q, u)))

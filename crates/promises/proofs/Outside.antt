@@ -7,10 +7,11 @@ use Rattle.services.proofs as services
 use Rattle.border.proofs as border
 use Rattle.lines.proofs as lines
 use Rattle.walk.proofs as walk
+use Rattle.answers.proofs as answers
 use Rattle.runner.proofs as runner
 use Rattle.gritgarland.proofs as gritgarland
 use Rattle.promises.specs.Tight.{Promise}
-use Rattle.promises.proofs.Laws.{of, typed, plain, given, result, both, besides, answer, five}
+use Rattle.promises.proofs.Laws.{of, typed, plain, given, result, bounded, both, besides, answer, five}
 
 pub of-text : List Promise
 of-text =
@@ -19,6 +20,7 @@ of-text =
     of text.number.read_number.signature (λ M. text.number.read_number.clauses) (λ M. text.number.read_number.Met.met) (λ w κs a g h o p. plain w result) ∷
     of text.words.byte_at.signature (λ M. text.words.byte_at.clauses) (λ M. text.words.byte_at.Met.met) (λ w κs a g h o p. plain w result) ∷
     of text.words.begins.signature (λ M. text.words.begins.clauses) (λ M. text.words.begins.Met.met) (λ w κs a g h o p. plain w result) ∷
+    of text.words.has_room.signature (λ M. text.words.has_room.clauses) (λ M. text.words.has_room.Met.met) (λ w κs a g h o p. plain w result) ∷
     of text.words.put_text.signature (λ M. text.words.put_text.clauses) (λ M. text.words.put_text.Met.met) (λ w κs a g h o p. plain w both) ∷
     []
 
@@ -42,6 +44,13 @@ of-lines =
 pub of-walk : List Promise
 of-walk =
     typed walk.play_line.signature (λ M. walk.play_line.clauses) (λ M. walk.play_line.Met.met) (λ w κs a g h o p. given w (λ i j. five (λ t. t .state) (λ b v l q n s. (s .turn, (b, (v, (l, (q, (n, _))))))) i j refl refl)) ∷
+    []
+
+pub of-answers : List Promise
+of-answers =
+    of answers.slot.signature (λ M. answers.slot.clauses) (λ M. answers.slot.Met.met) (λ w κs a g h o p. plain w result) ∷
+    of answers.row_width.signature (λ M. answers.row_width.clauses) (λ M. answers.row_width.Met.met) (λ w κs a g h o p. plain w bounded) ∷
+    of answers.put_row.signature (λ M. answers.put_row.clauses) (λ M. answers.put_row.Met.met) (λ w κs a g h o p. plain w both) ∷
     []
 
 pub of-runner : List Promise

@@ -23,7 +23,8 @@ use Rattle.runner.specs.declared.Ran.{Ran}
 use Rattle.runner.specs.declared.Ran.the-variants.{Wrote, TooLong, Unreadable, Short}
 use Rattle.walk.specs.Script.{Script, done, fault, next, scriptIn, scriptOf, faultOf}
 use Rattle.walk.specs.Rows.{Row, rowsBy, rowsText, textOf}
-use Rattle.runner.specs.Kept.{slotOf, keptRows, codesOf, runsOf, Plays}
+use Rattle.answers.specs.Slots.{slotOf}
+use Rattle.runner.specs.Kept.{keptRows, codesOf, runsOf, Plays}
 use Rattle.runner.specs.Outcome.{judged, ranOf}
 use Rattle.runner.proofs.Scripts.{rows-kept}
 

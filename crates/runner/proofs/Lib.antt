@@ -1,5 +1,3 @@
-pub mod Widths
-pub mod Placing
 pub mod Scripts
 pub mod Playing
 pub mod Writing

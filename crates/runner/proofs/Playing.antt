@@ -26,7 +26,8 @@ use Rattle.walk.proofs.Playing.{faulted, played, reaches}
 use Rattle.walk.proofs.Walking as walking
 use Rattle.walk.proofs.Walking.{Walk, answerRow}
 use Rattle.runner.specs.declared.Played.{Played}
-use Rattle.runner.specs.Kept.{slotOf, keptText, codesOf, runsOf, Plays as Keeps}
+use Rattle.answers.specs.Slots.{slotOf, keptText}
+use Rattle.runner.specs.Kept.{codesOf, runsOf, Plays as Keeps}
 use Rattle.runner.proofs.Scripts.{row-kept}
 
 pub record Left (wide : Bool) (file : List ℕ) (h : ℕ) (cs rs : List ℕ) (at n size run : ℕ) (s : State) : Type 0 where

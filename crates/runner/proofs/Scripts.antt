@@ -8,7 +8,8 @@ use Rattle.model.specs.declared.Code.{Code}
 use Rattle.model.specs.declared.Code.the-variants.{NoErr, Pending, Overflow, WContext, WState, Timeout, WrongParam, IlUse, NoExs, Dlt, Released, Unsound}
 use Rattle.model.specs.Code.{number}
 use Rattle.walk.specs.Rows.{Row, signed, rowText, rowsText}
-use Rattle.runner.specs.Kept.{slotOf, slotText, keptText, keptRows, codesOf, runsOf}
+use Rattle.answers.specs.Slots.{slotOf, slotText, keptText}
+use Rattle.runner.specs.Kept.{keptRows, codesOf, runsOf}
 
 -- ---- rows
 slot-text : (c : Code) → slotText (slotOf c) ≡ signed (number c)

@@ -8,7 +8,8 @@ use lib.ListN.{length, getD, take, drop, length-append, drop-of-length-le}
 use lib.Seq.{sets, length-sets, drop-cons, getD-take, length-take-le}
 use Rattle.text.specs.Bytes.{bytes, put, placeAfter}
 use Rattle.text.proofs.Stores.{sets-append, put-room, after-room}
-use Rattle.runner.specs.Kept.{keptText, keptRows}
+use Rattle.answers.specs.Slots.{keptText}
+use Rattle.runner.specs.Kept.{keptRows}
 
 -- the rows from place i on, of the first n that are kept
 abbrev pub left : ℕ → List ℕ → List ℕ → ℕ → List ℕ
@@ -23,19 +24,25 @@ module _ (n : ℕ) (codes runs : List ℕ) (p : n ≤ length codes) (q : n ≤ l
   left-next = rw (one-more n i codes h p, one-more n i runs h q)
 
   -- there is room for the next row
-  pub fits : (b : List ℕ) (out : ℕ) → out + length (left n codes runs i) ≤ length b → out + length (keptText (i + 1) (getD codes i 0) (getD runs i 0)) ≤ length b
+  fits : (b : List ℕ) (out : ℕ) → out + length (left n codes runs i) ≤ length b → out + length (keptText (i + 1) (getD codes i 0) (getD runs i 0)) ≤ length b
   fits b out r = omega (arith, ap length left-next, length-append (keptText (i + 1) (getD codes i 0) (getD runs i 0)) (left n codes runs (i + 1)))
 
   -- and it is written
-  module _ (b b′ : List ℕ) (out out′ : ℕ) (r : out + length (left n codes runs i) ≤ length b) (e : out′ ≡ out + length (keptText (i + 1) (getD codes i 0) (getD runs i 0))) (f : b′ ≡ sets b out (keptText (i + 1) (getD codes i 0) (getD runs i 0))) where
+  module _ (b b′ : List ℕ) (out out′ : ℕ) (r : out + length (left n codes runs i) ≤ length b) (e : out′ ≡ placeAfter b out (keptText (i + 1) (getD codes i 0) (getD runs i 0))) (f : b′ ≡ put b out (keptText (i + 1) (getD codes i 0) (getD runs i 0))) where
+    place : out′ ≡ out + length (keptText (i + 1) (getD codes i 0) (getD runs i 0))
+    place = e ∙ after-room b out (keptText (i + 1) (getD codes i 0) (getD runs i 0)) (fits b out r)
+
+    stores : b′ ≡ sets b out (keptText (i + 1) (getD codes i 0) (getD runs i 0))
+    stores = f ∙ put-room b out (keptText (i + 1) (getD codes i 0) (getD runs i 0)) (fits b out r)
+
     pub room : out′ + length (left n codes runs (i + 1)) ≤ length b′
     room =
-        omega (arith, ap length left-next, length-append (keptText (i + 1) (getD codes i 0) (getD runs i 0)) (left n codes runs (i + 1)), ap length f, length-sets b out (keptText (i + 1) (getD codes i 0) (getD runs i 0)))
+        omega (arith, ap length left-next, length-append (keptText (i + 1) (getD codes i 0) (getD runs i 0)) (left n codes runs (i + 1)), place, ap length stores, length-sets b out (keptText (i + 1) (getD codes i 0) (getD runs i 0)))
 
     pub goes : (w : List ℕ) → sets b out (left n codes runs i) ≡ w → sets b′ out′ (left n codes runs (i + 1)) ≡ w
     goes w g =
         let k : sets b out (keptText (i + 1) (getD codes i 0) (getD runs i 0) ++ left n codes runs (i + 1)) ≡ w = rw left-next at g in
-        rw (f, e) (sym (sets-append b out (keptText (i + 1) (getD codes i 0) (getD runs i 0)) (left n codes runs (i + 1))) ∙ k)
+        rw (stores, place) (sym (sets-append b out (keptText (i + 1) (getD codes i 0) (getD runs i 0)) (left n codes runs (i + 1))) ∙ k)
 
 -- nothing is left
 pub over : (n : ℕ) (codes runs b : List ℕ) (out i : ℕ) (w : List ℕ) → n ≤ length codes → n ≤ i → sets b out (left n codes runs i) ≡ w → b ≡ w

@@ -7,15 +7,15 @@ ghost use lib.ListN.{length, take};
 ghost use lib.Seq.{sets};
 ghost use Rattle.text.specs.Bytes.{bytes};
 ghost use Rattle.walk.specs.Script.{scriptIn};
-ghost use Rattle.runner.specs.Kept.{slotOf, slotText, keptText, Plays, keptRows};
+ghost use Rattle.runner.specs.Kept.{keptRows, Plays};
 ghost use Rattle.runner.specs.Outcome.{ranOf, signedOf, bufferOf, Small};
+use answers::put_row;
+use answers::row_width;
+use answers::slot;
 use lines::line::Header;
 use lines::line::Line;
 use lines::line::read_header;
 use lines::line::read_line;
-use model::Code;
-use text::decimals::put_decimal;
-use text::decimals::width;
 use text::words::put_text;
 
 // What became of a file: the bytes written, or why it was refused.
@@ -33,65 +33,6 @@ pub struct Played {
     pub total: usize,
     pub codes: [u8; 4096],
     pub runs: [u8; 4096],
-}
-
-// ---- a kept code: the paper's number plus 12
-fn slot(code: Code) -> u8
-    ensures { λ r. ⌜ r ≡ slotOf code ⌝ }
-{
-    match code {
-        Code::NoErr => 12,
-        Code::Pending => 13,
-        Code::Overflow => 11,
-        Code::WContext => 10,
-        Code::WState => 9,
-        Code::Timeout => 8,
-        Code::WrongParam => 7,
-        Code::IlUse => 4,
-        Code::NoExs => 3,
-        Code::Dlt => 2,
-        Code::Released => 1,
-        Code::Unsound => 0,
-    }
-}
-
-fn slot_width(v: u8) -> usize
-    ensures { λ r. ⌜ r ≡ length (slotText v) ⌝ }
-{
-    if v < 12 {
-        return 1 + width((12 - v) as u32);
-    }
-    width((v - 12) as u32)
-}
-
-fn put_slot(buf: &mut [u8], at: usize, v: u8) -> usize
-    requires { ⌜ at + length (slotText v) ≤ length (now buf) ⌝ }
-    ensures { λ r. ⌜ (r ≡ at + length (slotText v)) × (now (buf .exit) ≡ sets (now (buf .entry)) at (slotText v)) ⌝ }
-{
-    if v < 12 {
-        let next = put_text(buf, at, b"-");
-        return put_decimal(buf, next, (12 - v) as u32);
-    }
-    put_decimal(buf, at, (v - 12) as u32)
-}
-
-// ---- one row of the answer
-fn row_width(n: u32, v: u8, running: u8) -> usize
-    ensures { λ r. ⌜ (r ≡ length (keptText n v running)) × (r ≤ 20) ⌝ }
-{
-    width(n) + slot_width(v) + width(running as u32) + 4
-}
-
-fn put_row(buf: &mut [u8], at: usize, n: u32, v: u8, running: u8) -> usize
-    requires { ⌜ at + length (keptText n v running) ≤ length (now buf) ⌝ }
-    ensures { λ r. ⌜ (r ≡ at + length (keptText n v running)) × (now (buf .exit) ≡ sets (now (buf .entry)) at (keptText n v running)) ⌝ }
-{
-    let a = put_decimal(buf, at, n);
-    let b = put_text(buf, a, b",");
-    let c = put_slot(buf, b, v);
-    let d = put_text(buf, c, b",");
-    let e = put_decimal(buf, d, running as u32);
-    put_text(buf, e, b"\r\n")
 }
 
 // ---- the calls, each worked once

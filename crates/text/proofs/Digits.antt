@@ -4,6 +4,8 @@ use Prim.Native.Nat.{ℕ, zero, suc, _+_, _/_, _%_, _<_, _≤_, _^_}
 use mathlib.Core.Path.{_≡_, refl, ap}
 use mathlib.Core.Bool.{Bool, true, false}
 use mathlib.Core.List.{List, [], _∷_, _++_}
+use native.Mathlib.Nat.{div-lt-iff-lt-mul, pow-suc}
+use native.Mathlib.Decide.{decLe}
 use native.Mathlib.Omega.{arith}
 use lib.Dec.{ltb}
 use lib.ListN.{length, length-append}
@@ -39,3 +41,16 @@ width-step n h = rw (decimal-step n h) (simp length-append)
 pub width-is : (k n : ℕ) → 10 ^ suc k ≤ n → n < 10 ^ suc (suc k) → suc (suc k) ≡ length (decimal n)
 width-is zero n h g = omega (arith, width-step n (omega arith), width-one (n / 10) (omega arith))
 width-is (suc k) n h g = omega (arith, width-step n (omega arith), width-is k (n / 10) (omega arith) (omega arith))
+
+-- a number below 10 ^ (k + 1) has at most k + 1 digits
+pub width-most : (k n : ℕ) → n < 10 ^ suc k → length (decimal n) ≤ suc k
+width-most zero n h = go (decLe n 9)
+  where
+    go : Dec (n ≤ 9) → length (decimal n) ≤ 1
+    go (yes p) = omega (arith, width-one n p)
+    go (no p) = absurd (omega arith)
+width-most (suc k) n h = go (decLe n 9) (width-most k (n / 10))
+  where
+    go : Dec (n ≤ 9) → (n / 10 < 10 ^ suc k → length (decimal (n / 10)) ≤ suc k) → length (decimal n) ≤ suc (suc k)
+    go (yes p) ih = omega (arith, width-one n p)
+    go (no p) ih = omega (arith, width-step n (omega arith), ih (div-lt-iff-lt-mul (omega arith) .1 (rw (pow-suc 10 (suc k)) at h)))

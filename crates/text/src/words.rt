@@ -34,7 +34,7 @@ pub fn begins(s: &[u8], t: &[u8]) -> bool
 }
 
 // Whether n bytes have room from the place `at` on, where there are `places`.
-pub(crate) fn has_room(places: usize, at: usize, n: usize) -> bool
+pub fn has_room(places: usize, at: usize, n: usize) -> bool
     ensures { λ r. ⌜ r ≡ leb (at + n) places ⌝ }
 {
     if places < n {

@@ -40,9 +40,7 @@ array-read-put-row-2 : tie.Need-array-read-put-row-2 Inv-loop μ-loop
 array-read-put-row-2 c = search needs
 
 put-row-requires : tie.Need-put-row-requires Inv-loop μ-loop
-put-row-requires c κs = let len : length (c .before .before .before .before .before .before .before .before .before .args .t3) ≡ 4096 = search needs in
-    let len2 : length (c .before .before .before .before .before .before .before .before .before .args .t4) ≡ 4096 = search needs in
-    law.fits (c .before .before .before .before .before .before .before .before .before .args .n) (c .before .before .before .before .before .before .before .before .before .args .t3) (c .before .before .before .before .before .before .before .before .before .args .t4) (omega (arith, c .before .before .before .before .before .before .before .before .before .pre .0, len)) (omega (arith, c .before .before .before .before .before .before .before .before .before .pre .0, len2)) (c .before .before .loop .i) (c .before .loop-test .taken) (c .before .before .loop .answer) (c .before .before .loop .out) (c .before .before .loop .inv .2)
+put-row-requires c κs = search needs
 
 add-i : tie.Need-add-i Inv-loop μ-loop
 add-i c = search needs

@@ -1,12 +1,12 @@
--- `runner::slot_width` meets its contract: with a sign and without.
+-- `answers::slot_width` meets its contract: with a sign and without.
 use Prim.Native.Nat.{_-_}
 use native.Mathlib.Omega.{arith}
 use borrow.Author.Tests.{lt-ltb, le-ltb}
-use Rattle.runner.specs.Kept.{slotText}
-use Rattle.runner.proofs.Widths.{width-most}
+use Rattle.answers.specs.Slots.{slotText}
+use Rattle.text.proofs.Digits.{width-most}
 use borrow.Author.Needs.{needs}
-use Rattle.runner.proofs.slot_width.Statement.{statement}
-use Rattle.runner.proofs.slot_width.Tie as tie
+use Rattle.answers.proofs.slot_width.Statement.{statement}
+use Rattle.answers.proofs.slot_width.Tie as tie
 
 sub-width : tie.Need-sub-width
 sub-width c = search needs

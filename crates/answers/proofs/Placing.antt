@@ -37,3 +37,7 @@ then b at xs ys i b′ j b″ h p q f =
 -- what a callee says of a text it stored
 pub stored : (b : List ℕ) (at : ℕ) (t : List ℕ) (i : ℕ) (b′ : List ℕ) → (i ≡ at + length t) × (b′ ≡ sets b at t) → Placed b at t i b′
 stored b at t i b′ e = record { place = e .0; stores = e .1 }
+
+-- and what the caller is told of one that had room
+pub whole : (b : List ℕ) (at : ℕ) (t : List ℕ) (i : ℕ) (b′ : List ℕ) → at + length t ≤ length b → Placed b at t i b′ → (i ≡ placeAfter b at t) × (b′ ≡ put b at t)
+whole b at t i b′ h p = (p .place ∙ sym (after-room b at t h), p .stores ∙ sym (put-room b at t h))

@@ -1,15 +1,15 @@
--- `runner::put_slot` meets its contract: with a sign and without.
+-- `answers::put_slot` meets its contract: with a sign and without.
 use Prim.Native.Nat.{_+_, _-_, _≤_}
 use mathlib.Core.List.{_++_}
 use lib.ListN.{length}
 use borrow.Author.Tests.{lt-ltb, le-ltb}
 use Rattle.text.specs.Bytes.{bytes}
 use Rattle.text.specs.Decimal.{decimal}
-use Rattle.runner.specs.Kept.{slotText}
-use Rattle.runner.proofs.Placing as law
+use Rattle.answers.specs.Slots.{slotText}
+use Rattle.answers.proofs.Placing as law
 use borrow.Author.Needs.{needs}
-use Rattle.runner.proofs.put_slot.Statement.{statement}
-use Rattle.runner.proofs.put_slot.Tie as tie
+use Rattle.answers.proofs.put_slot.Statement.{statement}
+use Rattle.answers.proofs.put_slot.Tie as tie
 
 slice-aggregate-put-text : tie.Need-slice-aggregate-put-text
 slice-aggregate-put-text c = search needs
