@@ -2,6 +2,7 @@
 use mathlib.Core.Path.{sym, _∙_}
 use native.Mathlib.Omega.{arith}
 use Rattle.text.proofs.Places.{part-of}
+use Rattle.tables.specs.Lent.{stateIn}
 use Rattle.lines.specs.Lines.{lineOf}
 use Rattle.walk.proofs.Playing as law
 use borrow.Author.Needs.{needs}
@@ -39,7 +40,7 @@ add-t14 : tie.Need-add-t14
 add-t14 c = record { fits = omega (arith, c .before .before .before .before .before .before .before .before .before .before .before .before .before .good, c .before .before .before .before .before .before .before .before .before .before .before .before .before .fits, law.reaches (c .before .before .before .before .before .before .before .before .before .before .before .before .before .args .wide) (c .before .before .before .before .before .before .before .before .before .before .before .before .before .args .file .now) (c .before .before .before .before .before .before .before .before .before .before .before .before .before .args .at) _ _ _ (c .before .before .before .before .before .before .before .before .before .before .before .if1 .left) (sym (part-of (lineOf (c .before .before .before .before .before .before .before .before .before .before .before .before .before .args .wide)) (c .before .before .before .before .before .before .before .before .before .before .before .before .before .args .file .now) (c .before .before .before .before .before .before .before .before .before .before .before .before .before .args .at) (c .before .before .before .before .before .before .before .before .before .read-line .ensures)) ∙ c .before .before .before .before .before .before .before .context .given .1)) }
 
 returns-3 : tie.Need-returns-3
-returns-3 c = law.played _ _ _ _ _ _ _ _ _ (sym (part-of (lineOf (c .before .before .before .before .before .before .before .before .before .before .before .before .before .args .wide)) (c .before .before .before .before .before .before .before .before .before .before .before .before .before .args .file .now) (c .before .before .before .before .before .before .before .before .before .before .before .before .before .args .at) (c .before .before .before .before .before .before .before .before .before .read-line .ensures)) ∙ c .before .before .before .before .before .before .before .context .given .1) (c .step-in .ensures)
+returns-3 c = law.played _ _ (stateIn _ _ _ _ _) _ _ _ _ _ (stateIn _ _ _ _ _) (sym (part-of (lineOf (c .before .before .before .before .before .before .before .before .before .before .before .before .before .args .wide)) (c .before .before .before .before .before .before .before .before .before .before .before .before .before .args .file .now) (c .before .before .before .before .before .before .before .before .before .before .before .before .before .args .at) (c .before .before .before .before .before .before .before .before .before .read-line .ensures)) ∙ c .before .before .before .before .before .before .before .context .given .1) (c .step-in .ensures)
 
 pub play-line-spec : {M : Type 1} → statement M
 play-line-spec =
