@@ -66,9 +66,11 @@ void board_switch(uint32_t from, uint32_t to)
         return;
     masked = 0;
     while (current != from && !halted) {
-        happening *body = bodies[current];
-        bodies[current] = NULL;
-        if (body != NULL)
+        happening *held = waiting, *body = bodies[current];
+        waiting = NULL;
+        if (held != NULL)
+            deliver(held);
+        else if (bodies[current] = NULL, body != NULL)
             body();
         else if (*to_come != NULL)
             deliver(*to_come++);
@@ -108,6 +110,12 @@ static void release_interrupt(void)
 static void looks_too_early(void)
 {
     expect(kernel.tasks[RELAY_TASK].wait.kind == 2 && gritgarland_wait_code(kernel.tasks[RELAY_TASK].code) == 0, "a wait that lasts looks like one that was served");
+}
+
+static void tick_in_start_up(void)
+{
+    expect(started && current == RELAY_TASK && kernel.tasks[SCREEN_TASK].active == 1, "an interrupt comes into start-up");
+    timer_interrupt();
 }
 
 static void wild_store(void)
@@ -154,7 +162,8 @@ static void firing(void)
 {
     power_on();
     bodies[RELAY_TASK] = relay_task;
-    expect(start() && started && !stopped, "start-up");
+    during = tick_in_start_up;
+    expect(start() && started && !stopped && delivered > 0 && masked == 0, "start-up");
     expect(switches >= 8 && gritgarland_is_sound(kernel), "tasks came and went");
 
     static happening *const ticks[] = {timer_interrupt, timer_interrupt, NULL};
@@ -216,7 +225,10 @@ static void otherwise(void)
 
     power_on();
     gritgarland_sem_create(&kernel, GRITGARLAND_T, KEY, 0, 1);
-    expect(!start() && !started && switches == 0 && !relays, "a refusal in start-up: nothing runs");
+    expect(!start() && !started && switches == 0 && !relays, "the first creation is refused: nothing runs");
+    power_on();
+    gritgarland_task_create(&kernel, GRITGARLAND_T, RELAY_TASK, 2, 0);
+    expect(!start() && !started && switches == 0 && !relays, "the last creation is refused: nothing runs");
 }
 
 int main(void)

@@ -43,16 +43,18 @@ enum { RELAY_TASK = 1, SCREEN_TASK = 2, KEY = 1, DOOR = 1, DOOR_SHUT = 1 };
 
 static bool start(void)
 {
+    uint32_t before = board_mask(); /* no interrupt until the first task runs */
     bool made = ask(GRITGARLAND_T, GRITGARLAND_SEM_CREATE, KEY, 0, 1, 0).code == GRITGARLAND_NO_ERR;
     made = ask(GRITGARLAND_T, GRITGARLAND_EVENT_CREATE, DOOR, GRITGARLAND_ATTR_NEITHER, 0, 0).code == GRITGARLAND_NO_ERR && made;
     made = ask(GRITGARLAND_T, GRITGARLAND_TASK_CREATE, SCREEN_TASK, 10, 1, 0).code == GRITGARLAND_NO_ERR && made;
     gritgarland_report r = ask(GRITGARLAND_T, GRITGARLAND_TASK_CREATE, RELAY_TASK, 2, 1, 0);
-    if (!made || r.code != GRITGARLAND_NO_ERR)
-        return false; /* a refusal in start-up is a mistake in the lines above: the relays stay off */
-    started = true;
-    current = r.running;
-    board_switch(0, r.running); /* comes back when nobody runs: the caller is the idle loop from here on */
-    return true;
+    started = made && r.code == GRITGARLAND_NO_ERR; /* else a line above is wrong: nothing runs, and the relays stay off */
+    if (started) {
+        current = r.running;
+        board_switch(0, r.running); /* comes back when nobody runs: the caller is the idle loop from here on */
+    }
+    board_unmask(before);
+    return started;
 }
 
 /* ---- waits: PENDING says that the wait began; how it ended is in the task's record once the task runs again */
