@@ -56,10 +56,11 @@ __attribute__((noinline)) static void litter(uint64_t word)
 
 static uint32_t sum(const gritgarland_state *s)
 {
-    const uint8_t *bytes = (const uint8_t *)s;
+    static uint32_t words[sizeof *s / 4];
     uint32_t n = 2166136261u;
-    for (size_t i = 0; i < sizeof *s; i++)
-        n = (n ^ bytes[i]) * 16777619u;
+    memcpy(words, s, sizeof words);
+    for (size_t i = 0; i < sizeof *s / 4; i++)
+        n = (n ^ words[i]) * 16777619u;
     return n;
 }
 
