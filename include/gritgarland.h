@@ -86,7 +86,7 @@ enum {
 enum { GRITGARLAND_OR = 0, /* any bit of the pattern */ GRITGARLAND_AND = 1 /* all of them */ };
 
 /* ---- codes; a negative one refuses, and the state comes back unchanged. Look at the code before the running task: with UNSOUND that is
-   0, as where nobody runs, and whoever idles then idles on a state that says nothing. */
+   0, as when nobody runs, and a board that idles then leaves its relays as they are (docs/BOARD.md). */
 enum {
     GRITGARLAND_NO_ERR = 0,
     GRITGARLAND_PENDING = 1,
@@ -116,7 +116,8 @@ gritgarland_report gritgarland_call_in_place(gritgarland_state *state, uint32_t 
 bool gritgarland_is_sound(gritgarland_state state);
 
 /* The wait code that a task's record keeps without its sign, as the number with its sign: 0, -4, -10 or -11 of 0, 4, 10 or 11.
-   How a wait that began with PENDING ended: gritgarland_wait_code(state.tasks[t].code), once task t runs again; it is 0 until then. */
+   How a wait that began with PENDING ended: gritgarland_wait_code(state.tasks[t].code), once task t runs again. While it lasts that is
+   0, which looks like success. */
 int32_t gritgarland_wait_code(uint8_t kept);
 
 /* ---- lists of calls */
