@@ -51,7 +51,9 @@ pub extern "C" fn gritgarland_call_in_place(
         × (isNegative (r .code) ≡ true → now (s .exit) ≡ now (s .entry))) ⌝ }
 {
     let r = border::call_by_number(*s, context, service, a, b, c, d);
-    *s = r.state;
+    if 0 <= r.code {
+        *s = r.state;
+    }
     Report {
         code: r.code,
         running: r.running,

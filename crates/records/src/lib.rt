@@ -82,6 +82,7 @@ fn no_wait() -> Wait
         kind: NOTHING,
         object: 0,
         mode: 0,
+        spare: 0,
         remaining: 0,
         pattern: 0,
     }
@@ -94,6 +95,7 @@ pub fn asleep(timeout: u32) -> Wait
         kind: SLEEP,
         object: 0,
         mode: 0,
+        spare: 0,
         remaining: timeout,
         pattern: 0,
     }
@@ -106,6 +108,7 @@ pub fn on_semaphore(semaphore: u8, timeout: u32) -> Wait
         kind: SEMAPHORE,
         object: semaphore,
         mode: 0,
+        spare: 0,
         remaining: timeout,
         pattern: 0,
     }
@@ -118,6 +121,7 @@ pub fn on_flag(flag: u8, pattern: u32, mode: u8, timeout: u32) -> Wait
         kind: FLAG,
         object: flag,
         mode: mode,
+        spare: 0,
         remaining: timeout,
         pattern: pattern,
     }
@@ -136,6 +140,7 @@ pub fn dormant(p: u8) -> Task
         wakeups: 0,
         activations: 0,
         code: SERVED,
+        spare: 0,
         wait: none,
         handed: 0,
     }

@@ -46,7 +46,7 @@ fn play(file: &[u8], wide: bool, h: usize) -> Played
     let mut at = h;
     let mut n: usize = 0;
     let mut total: usize = 16;
-    let mut bytes = [0u8; 250];
+    let mut bytes = [0u8; 300];
     let mut words = [0u32; 75];
     let mut levels = [0u8; 744];
     let mut waits = [0u8; 504];
