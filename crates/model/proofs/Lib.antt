@@ -1,4 +1,5 @@
 pub mod Words
 pub mod Table
 pub mod Flags
+pub mod Refusals
 pub mod Damage
