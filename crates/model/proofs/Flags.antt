@@ -46,12 +46,6 @@ table =
     (task (OnFlag 1 (Create 0 0)) ok 0 ∷ task (TaskCreate 1 5 1) ok 1 ∷ task (OnFlag 1 (Wait 1 0 9)) pending 0 ∷ task (TaskSuspend 1) ok 0 ∷ int (TaskIwakeup 1) ok 0 ∷ int (OnFlag 1 (Iset 3)) ok 0
     ∷ shows (handed 1) (3 ∷ []) ∷ shows (suspended 1) (1 ∷ []) ∷ task (TaskResume 1) ok 1 ∷ task (TaskSleep 9) ok 1 ∷ shows (handed 1) (3 ∷ []) ∷ task (TaskSleep 9) pending 0
     ∷ shows (handed 1) (0 ∷ []) ∷ task (TaskWakeup 1) ok 1 ∷ task (OnFlag 1 (Wait 4 0 9)) pending 0 ∷ task (TaskReleaseWait 1) ok 1 ∷ waitCode 1 (minus 11) ∷ shows (flagQueue 1) [] ∷ [])
-    -- numbers out of range before a missing flag, that before the context, that before SINGLE
-    ∷ from0
-    (task (OnFlag 1 (Create 2 0)) (minus 5) 0 ∷ task (OnFlag 1 (Create 4 0)) (minus 5) 0 ∷ task (OnFlag 9 (Create 0 0)) (minus 5) 0 ∷ task (OnFlag 0 (Create 0 0)) (minus 5) 0 ∷ task (OnFlag 1 (Create 1 1)) ok 0
-    ∷ int (OnFlag 1 (Create 1 1)) (minus 5) 0 ∷ int (OnFlag 2 (Create 1 1)) (minus 2) 0 ∷ int (OnFlag 1 (Set 0)) (minus 5) 0 ∷ int (OnFlag 1 (Clear 0)) (minus 5) 0 ∷ task (OnFlag 1 (Wait 0 0 1)) (minus 5) 0
-    ∷ task (OnFlag 1 (Wait 1 2 1)) (minus 5) 0 ∷ task (OnFlag 1 (Wait 1 0 0)) (minus 5) 0 ∷ task (OnFlag 1 (WaitPolling 0 0)) (minus 5) 0 ∷ task (OnFlag 1 (WaitPolling 1 2)) (minus 5) 0
-    ∷ int (OnFlag 3 (Set 1)) (minus 9) 0 ∷ int (OnFlag 3 (Wait 1 0 1)) (minus 9) 0 ∷ int (OnFlag 1 (Set 1)) (minus 2) 0 ∷ task (OnFlag 1 (Iset 1)) (minus 2) 0 ∷ task (OnFlag 1 (Wait 1 0 1)) (minus 2) 0 ∷ [])
     ∷ []
 
 pub flags : So (allHold table)
