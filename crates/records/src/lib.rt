@@ -1,6 +1,7 @@
-// One task's record: which queues list it, and the records that calls make of it.
-// Each function is a definition of model/specs/Task, for every value; it rests on model alone.
+// One task's record: which queues list it, the records that calls make of it, and how its last wait ended.
+// Each function is a definition of model/specs/Task, for every value; it rests on model and, for a sign, on a law of laws.
 ghost use mathlib.Core.Path.{_≡_};
+ghost use Rattle.model.specs.Code.{waitNumber};
 ghost use Rattle.model.specs.Flag.{isMet, flagRow};
 ghost use Rattle.model.specs.Task.{noWait, asleep, onSemaphore, onFlag, noTask, levelOf, rowOf, dormant, activated, created, withPriority, withSuspended, withWakeups, withActivations, waiting, ended, told};
 use model::News;
@@ -247,4 +248,11 @@ pub fn told(news: News, x: Task) -> Task
             x
         }
     }
+}
+
+// ---- how the last wait ended: the paper's number of what a record keeps without its sign
+pub fn wait_number(code: u8) -> i32
+    ensures { λ r. ⌜ r ≡ waitNumber code ⌝ }
+{
+    0 - (code as i32)
 }
