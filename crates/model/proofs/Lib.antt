@@ -4,4 +4,5 @@ pub mod Flags
 pub mod Refusals
 pub mod Accepted
 pub mod Forms
+pub mod Codes
 pub mod Damage
