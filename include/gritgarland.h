@@ -1,5 +1,11 @@
-/* Gritgarland: TNKernel's scheduling decisions as a proved library. Link with libgritgarland.a.
-   A call takes a state and gives the next one, or alters the one that it is lent; what each call answers is in docs/SERVICES.md. */
+/* Gritgarland: TNKernel's scheduling decisions as a proved library. Link with libgritgarland.a, which is for x86-64 Linux (its System V
+   calling convention) and for nothing else; docs/BOARD.md says what that means for a board.
+   A call takes a state and gives the next one, or alters the one that it is lent; what each call answers is in docs/SERVICES.md.
+
+   Proved, in the archive, is what the functions declared here do. The inline functions of these headers (gritgarland_fresh, those of
+   gritgarland_services.h and gritgarland_names.h) are tested and not proved.
+   The library keeps nothing between two calls and has no data of its own, so calls on different states, and lists with different
+   buffers, may run at once in different threads. */
 #ifndef GRITGARLAND_H
 #define GRITGARLAND_H
 
@@ -7,6 +13,12 @@
 #include <stdbool.h>
 #include <stddef.h>
 #include <stdint.h>
+
+/* The version: 10000 times its first number, 100 times its second, and its third. The second counts the landings after the base
+   (docs/landings) and goes up with each; the first goes up too where callers must be built again; the third with a correction between
+   two landings. What came before 1.5.0 has no such number. */
+#define GRITGARLAND_VERSION 10500
+#define GRITGARLAND_VERSION_STRING "1.5.0"
 
 #ifdef __cplusplus
 extern "C" {
@@ -26,7 +38,7 @@ typedef struct gritgarland_report {
     uint32_t value;
 } gritgarland_report;
 
-/* ---- contexts */
+/* ---- contexts: who calls. The library can't see it and believes the number. */
 enum { GRITGARLAND_T = 0, /* the running task, or start-up code */ GRITGARLAND_I = 1 /* an interrupt */ };
 
 /* ---- services, with the numbers they take as a, b, c, d; a number not taken is not looked at */
@@ -73,7 +85,8 @@ enum {
 };
 enum { GRITGARLAND_OR = 0, /* any bit of the pattern */ GRITGARLAND_AND = 1 /* all of them */ };
 
-/* ---- codes; a negative one refuses, and the state comes back unchanged */
+/* ---- codes; a negative one refuses, and the state comes back unchanged. Look at the code before the running task: with UNSOUND that is
+   0, as when nobody runs, and a board that idles then leaves its relays as they are (docs/BOARD.md). */
 enum {
     GRITGARLAND_NO_ERR = 0,
     GRITGARLAND_PENDING = 1,
@@ -93,144 +106,19 @@ enum {
    names nothing gets GRITGARLAND_WRONG_PARAM. */
 gritgarland_reply gritgarland_call(gritgarland_state state, uint32_t context, uint32_t service, uint32_t a, uint32_t b, uint32_t c, uint32_t d);
 
-/* One call on the one state that the caller lends, answering as gritgarland_call does: the state becomes the next one, and a
-   negative code leaves every field of it. It is tested at each call, as any state from outside. What can't be checked here and
-   is the caller's to see to: the pointer is valid and not null, and nobody else, an interrupt neither, touches that state during
-   the call. */
+/* One call on the one state that the caller lends, answering as gritgarland_call does: the state becomes the next one, and with a
+   negative code nothing is stored, so that every byte of it stays. It is tested at each call, as any state from outside. What can't be
+   checked here and is the caller's to see to: the pointer is valid and not null, and no thread and no interrupt touches that state
+   during the call. */
 gritgarland_report gritgarland_call_in_place(gritgarland_state *state, uint32_t context, uint32_t service, uint32_t a, uint32_t b, uint32_t c, uint32_t d);
 
 /* Does a state keep every rule of a sound state? */
 bool gritgarland_is_sound(gritgarland_state state);
 
-/* ---- each service with the numbers that it takes, by gritgarland_call_in_place */
-static inline gritgarland_report gritgarland_task_create(gritgarland_state *state, uint32_t context, uint32_t task, uint32_t priority, uint32_t option)
-{
-    return gritgarland_call_in_place(state, context, GRITGARLAND_TASK_CREATE, task, priority, option, 0);
-}
-static inline gritgarland_report gritgarland_task_delete(gritgarland_state *state, uint32_t context, uint32_t task)
-{
-    return gritgarland_call_in_place(state, context, GRITGARLAND_TASK_DELETE, task, 0, 0, 0);
-}
-static inline gritgarland_report gritgarland_task_activate(gritgarland_state *state, uint32_t context, uint32_t task)
-{
-    return gritgarland_call_in_place(state, context, GRITGARLAND_TASK_ACTIVATE, task, 0, 0, 0);
-}
-static inline gritgarland_report gritgarland_task_iactivate(gritgarland_state *state, uint32_t context, uint32_t task)
-{
-    return gritgarland_call_in_place(state, context, GRITGARLAND_TASK_IACTIVATE, task, 0, 0, 0);
-}
-static inline gritgarland_report gritgarland_task_exit(gritgarland_state *state, uint32_t context)
-{
-    return gritgarland_call_in_place(state, context, GRITGARLAND_TASK_EXIT, 0, 0, 0, 0);
-}
-static inline gritgarland_report gritgarland_task_terminate(gritgarland_state *state, uint32_t context, uint32_t task)
-{
-    return gritgarland_call_in_place(state, context, GRITGARLAND_TASK_TERMINATE, task, 0, 0, 0);
-}
-static inline gritgarland_report gritgarland_task_suspend(gritgarland_state *state, uint32_t context, uint32_t task)
-{
-    return gritgarland_call_in_place(state, context, GRITGARLAND_TASK_SUSPEND, task, 0, 0, 0);
-}
-static inline gritgarland_report gritgarland_task_resume(gritgarland_state *state, uint32_t context, uint32_t task)
-{
-    return gritgarland_call_in_place(state, context, GRITGARLAND_TASK_RESUME, task, 0, 0, 0);
-}
-static inline gritgarland_report gritgarland_task_sleep(gritgarland_state *state, uint32_t context, uint32_t timeout)
-{
-    return gritgarland_call_in_place(state, context, GRITGARLAND_TASK_SLEEP, timeout, 0, 0, 0);
-}
-static inline gritgarland_report gritgarland_task_wakeup(gritgarland_state *state, uint32_t context, uint32_t task)
-{
-    return gritgarland_call_in_place(state, context, GRITGARLAND_TASK_WAKEUP, task, 0, 0, 0);
-}
-static inline gritgarland_report gritgarland_task_iwakeup(gritgarland_state *state, uint32_t context, uint32_t task)
-{
-    return gritgarland_call_in_place(state, context, GRITGARLAND_TASK_IWAKEUP, task, 0, 0, 0);
-}
-static inline gritgarland_report gritgarland_task_release_wait(gritgarland_state *state, uint32_t context, uint32_t task)
-{
-    return gritgarland_call_in_place(state, context, GRITGARLAND_TASK_RELEASE_WAIT, task, 0, 0, 0);
-}
-static inline gritgarland_report gritgarland_task_irelease_wait(gritgarland_state *state, uint32_t context, uint32_t task)
-{
-    return gritgarland_call_in_place(state, context, GRITGARLAND_TASK_IRELEASE_WAIT, task, 0, 0, 0);
-}
-static inline gritgarland_report gritgarland_task_change_priority(gritgarland_state *state, uint32_t context, uint32_t task, uint32_t priority)
-{
-    return gritgarland_call_in_place(state, context, GRITGARLAND_TASK_CHANGE_PRIORITY, task, priority, 0, 0);
-}
-static inline gritgarland_report gritgarland_sys_tslice_ticks(gritgarland_state *state, uint32_t context, uint32_t level, uint32_t slice)
-{
-    return gritgarland_call_in_place(state, context, GRITGARLAND_SYS_TSLICE_TICKS, level, slice, 0, 0);
-}
-static inline gritgarland_report gritgarland_tick_int_processing(gritgarland_state *state, uint32_t context)
-{
-    return gritgarland_call_in_place(state, context, GRITGARLAND_TICK_INT_PROCESSING, 0, 0, 0, 0);
-}
-static inline gritgarland_report gritgarland_sem_create(gritgarland_state *state, uint32_t context, uint32_t semaphore, uint32_t start, uint32_t maximum)
-{
-    return gritgarland_call_in_place(state, context, GRITGARLAND_SEM_CREATE, semaphore, start, maximum, 0);
-}
-static inline gritgarland_report gritgarland_sem_delete(gritgarland_state *state, uint32_t context, uint32_t semaphore)
-{
-    return gritgarland_call_in_place(state, context, GRITGARLAND_SEM_DELETE, semaphore, 0, 0, 0);
-}
-static inline gritgarland_report gritgarland_sem_signal(gritgarland_state *state, uint32_t context, uint32_t semaphore)
-{
-    return gritgarland_call_in_place(state, context, GRITGARLAND_SEM_SIGNAL, semaphore, 0, 0, 0);
-}
-static inline gritgarland_report gritgarland_sem_isignal(gritgarland_state *state, uint32_t context, uint32_t semaphore)
-{
-    return gritgarland_call_in_place(state, context, GRITGARLAND_SEM_ISIGNAL, semaphore, 0, 0, 0);
-}
-static inline gritgarland_report gritgarland_sem_acquire(gritgarland_state *state, uint32_t context, uint32_t semaphore, uint32_t timeout)
-{
-    return gritgarland_call_in_place(state, context, GRITGARLAND_SEM_ACQUIRE, semaphore, timeout, 0, 0);
-}
-static inline gritgarland_report gritgarland_sem_polling(gritgarland_state *state, uint32_t context, uint32_t semaphore)
-{
-    return gritgarland_call_in_place(state, context, GRITGARLAND_SEM_POLLING, semaphore, 0, 0, 0);
-}
-static inline gritgarland_report gritgarland_sem_ipolling(gritgarland_state *state, uint32_t context, uint32_t semaphore)
-{
-    return gritgarland_call_in_place(state, context, GRITGARLAND_SEM_IPOLLING, semaphore, 0, 0, 0);
-}
-static inline gritgarland_report gritgarland_event_create(gritgarland_state *state, uint32_t context, uint32_t flag, uint32_t attributes, uint32_t bits)
-{
-    return gritgarland_call_in_place(state, context, GRITGARLAND_EVENT_CREATE, flag, attributes, bits, 0);
-}
-static inline gritgarland_report gritgarland_event_delete(gritgarland_state *state, uint32_t context, uint32_t flag)
-{
-    return gritgarland_call_in_place(state, context, GRITGARLAND_EVENT_DELETE, flag, 0, 0, 0);
-}
-static inline gritgarland_report gritgarland_event_set(gritgarland_state *state, uint32_t context, uint32_t flag, uint32_t bits)
-{
-    return gritgarland_call_in_place(state, context, GRITGARLAND_EVENT_SET, flag, bits, 0, 0);
-}
-static inline gritgarland_report gritgarland_event_iset(gritgarland_state *state, uint32_t context, uint32_t flag, uint32_t bits)
-{
-    return gritgarland_call_in_place(state, context, GRITGARLAND_EVENT_ISET, flag, bits, 0, 0);
-}
-static inline gritgarland_report gritgarland_event_clear(gritgarland_state *state, uint32_t context, uint32_t flag, uint32_t bits)
-{
-    return gritgarland_call_in_place(state, context, GRITGARLAND_EVENT_CLEAR, flag, bits, 0, 0);
-}
-static inline gritgarland_report gritgarland_event_iclear(gritgarland_state *state, uint32_t context, uint32_t flag, uint32_t bits)
-{
-    return gritgarland_call_in_place(state, context, GRITGARLAND_EVENT_ICLEAR, flag, bits, 0, 0);
-}
-static inline gritgarland_report gritgarland_event_wait(gritgarland_state *state, uint32_t context, uint32_t flag, uint32_t pattern, uint32_t mode, uint32_t timeout)
-{
-    return gritgarland_call_in_place(state, context, GRITGARLAND_EVENT_WAIT, flag, pattern, mode, timeout);
-}
-static inline gritgarland_report gritgarland_event_wait_polling(gritgarland_state *state, uint32_t context, uint32_t flag, uint32_t pattern, uint32_t mode)
-{
-    return gritgarland_call_in_place(state, context, GRITGARLAND_EVENT_WAIT_POLLING, flag, pattern, mode, 0);
-}
-static inline gritgarland_report gritgarland_event_iwait(gritgarland_state *state, uint32_t context, uint32_t flag, uint32_t pattern, uint32_t mode)
-{
-    return gritgarland_call_in_place(state, context, GRITGARLAND_EVENT_IWAIT, flag, pattern, mode, 0);
-}
+/* The wait code that a task's record keeps without its sign, as the number with its sign: 0, -4, -10 or -11 of 0, 4, 10 or 11.
+   How a wait that began with PENDING ended: gritgarland_wait_code(state.tasks[t].code), once task t runs again. While it lasts that is
+   0, which looks like success. */
+int32_t gritgarland_wait_code(uint8_t kept);
 
 /* ---- lists of calls */
 enum {
@@ -245,10 +133,19 @@ enum {
    -2, the answer does not fit. Bytes beyond those written stay.
    What can't be checked here and is the caller's to see to: the two buffers do not overlap, each has as many bytes as is said,
    and a null pointer comes only with length 0. */
+int64_t gritgarland_run_list(const uint8_t *file, size_t file_length, uint8_t *answer, size_t answer_length);
+
+/* The same by the name that it had first. A program with a run_list of its own defines GRITGARLAND_NO_RUN_LIST before it includes this
+   header, and links the archive that tools/install installs: there a caller's own function goes before this one. */
+#ifndef GRITGARLAND_NO_RUN_LIST
 int64_t run_list(const uint8_t *file, size_t file_length, uint8_t *answer, size_t answer_length);
+#endif
 
 #ifdef __cplusplus
 }
 #endif
+
+#include "gritgarland_names.h"
+#include "gritgarland_services.h"
 
 #endif

@@ -1,18 +1,24 @@
 /* The state that the calls of gritgarland.h go from and to: plain unsigned numbers in fixed tables, so that any bytes are a state.
-   Place 0 of every table is unused, and a state of zeros is the fresh one. */
+   A state of zeros is the fresh one, with nothing created.
+
+   Tasks, levels, semaphores and flags are counted from 1. Place 0 of every table (tasks[0], levels[0], waits[0] and number 0 of each
+   array in numbers) is unused and must be zero, else the state is unsound and every call on it is refused. So it is with each spare
+   byte. A queue's places are counted from 0. */
 #ifndef GRITGARLAND_STATE_H
 #define GRITGARLAND_STATE_H
 
 #include <stdint.h>
 
-/* The layout changed once, with this version; what was built against the earlier one must be built again.
+/* The layout changed once, before version 1.5.0; what was built against the earlier one must be built again.
      was                                             is
      tasks[t].wait                                   tasks[t].wait.kind
      tasks[t].object, .mode, .remaining, .pattern    the same in tasks[t].wait; the fields of a task stand in another order
      levels[l][i], waits[r][i]                       levels[l].places[i], waits[r].places[i]
      slices, charges, counts, maxima, attributes,    the same in numbers, all of 32 bits
        bits, time: 16, 16, 16, 16, 8, 32, 32 bits
-     a task 24 bytes, a state 2076, a reply 2088     24, 2276, 2288 */
+     a task 24 bytes, a state 2076, a reply 2088     24, 2276, 2288
+   Since version 1.5.0 two bytes of a task's record that were padding have a name, spare, and must be zero: build again what was built
+   before, so that it copies and clears them. */
 
 enum {
     GRITGARLAND_TASKS = 24,
@@ -29,6 +35,7 @@ typedef struct gritgarland_wait {
     uint8_t kind;       /* 0 for nothing, 1 a sleep, 2 a semaphore, 3 an event flag */
     uint8_t object;     /* the semaphore or flag that is waited on, else 0 */
     uint8_t mode;       /* of a flag wait: 0 any bit of its pattern, 1 all; else 0 */
+    uint8_t spare;      /* 0 */
     uint32_t remaining; /* ticks until the timeout */
     uint32_t pattern;   /* the bits that a flag wait asks for, else 0 */
 } gritgarland_wait;
@@ -40,7 +47,8 @@ typedef struct gritgarland_task {
     uint8_t suspended;   /* 1: suspended */
     uint8_t wakeups;     /* wakeup count */
     uint8_t activations; /* activation count */
-    uint8_t code;        /* wait code without its sign: 0, 4, 10 or 11 */
+    uint8_t code;        /* wait code without its sign: 0, 4, 10 or 11; 0 while a wait lasts */
+    uint8_t spare;       /* 0 */
     gritgarland_wait wait;
     uint32_t handed;     /* the bits that the last wait handed over; 0 during any wait */
 } gritgarland_task;
@@ -67,8 +75,18 @@ typedef struct gritgarland_state {
     gritgarland_numbers numbers;
 } gritgarland_state;
 
-#if defined(__STDC_VERSION__) && __STDC_VERSION__ >= 201112L
-_Static_assert(sizeof(gritgarland_task) == 24 && sizeof(gritgarland_state) == 2276, "this compiler lays a state out as the library has it");
+/* A compiler that lays a state out otherwise than the library refuses this line. */
+typedef char gritgarland_layout_of_the_library[sizeof(gritgarland_task) == 24 && sizeof(gritgarland_state) == 2276 ? 1 : -1];
+
+/* The fresh state. A static state without an initializer is fresh too. */
+static inline gritgarland_state gritgarland_fresh(void)
+{
+#ifdef __cplusplus
+    return gritgarland_state();
+#else
+    gritgarland_state zeros = {0};
+    return zeros;
 #endif
+}
 
 #endif

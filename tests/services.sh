@@ -1,7 +1,7 @@
 #!/bin/sh
-# The one table of services, crates/model/specs/Services.antt (name, context, fields; a service's number is its row), against what
-# says it again: the constants and functions of include/gritgarland.h, the tables of docs/SERVICES.md, the timeouts of ./play.
-# Writes what differs; exit status 0 if nothing does.
+# The one table of services, crates/model/specs/Services.antt (name, context, fields; a service's number is its row), and the codes of
+# Code.antt beside it, against what says them again: the constants, functions and names of the headers in include/, the tables of
+# docs/SERVICES.md, the timeouts of ./play. Writes what differs; exit status 0 if nothing does.
 set -u
 LC_ALL=C
 export LC_ALL
@@ -9,7 +9,10 @@ cd "$(dirname "$0")/.." || exit 2
 work=$(mktemp -d) || exit 2
 trap 'rm -rf "$work"' EXIT
 table=crates/model/specs/Services.antt
+codes=crates/model/specs/Code.antt
 header=include/gritgarland.h
+functions=include/gritgarland_services.h
+names=include/gritgarland_names.h
 page=docs/SERVICES.md
 failed=0
 
@@ -78,8 +81,63 @@ awk '
         for (i = 1; i <= n; i++) all = all (i > 1 ? " " : "") (part[i] == "pattern" ? "bits" : part[i])
         return all
     }
-' "$header" >"$work/is"
-same "the functions of $header"
+' "$functions" >"$work/is"
+same "the functions of $functions"
+
+# ---- the names that the header gives: of every number from -400 to 400, by a program
+cat >"$work/names.c" <<'END'
+#include "gritgarland.h"
+#include "libc.h"
+
+int main(void)
+{
+    for (int32_t n = -400; n <= 400; n++)
+        printf("code %d %s\n", (int)n, gritgarland_code_name(n));
+    for (uint32_t n = 0; n <= 400; n++)
+        printf("service %u %s\n", (unsigned)n, gritgarland_service_name(n));
+    printf("service far %s\n", gritgarland_service_name(UINT32_MAX));
+    return 0;
+}
+END
+gcc -std=c99 -Iinclude -Itests/c "$work/names.c" -o "$work/names" && "$work/names" >"$work/named" || { echo "services: the names of $names can't be printed"; exit 1; }
+awk '
+    { name[$1] = $2 }
+    END {
+        for (i = 0; i <= 400; i++) print "service", i, (i in name ? name[i] : "no such service")
+        print "service far no such service"
+    }
+' "$work/table" >"$work/wanted"
+grep '^service' "$work/named" >"$work/is"
+same "the services' names of $names"
+
+# ---- the codes: number and name as the definitions have them, without case and underscores there
+awk '
+    function plain(s) { gsub(/_/, "", s); return toupper(s) }
+    /^number [A-Z]/ { print ($4 == "pos" ? $5 : $4 == "negsuc" ? -($5 + 1) : $4 == "minus" ? -$5 : "no-number-in-" $4), plain($2) }
+' "$codes" | sort -n >"$work/codes"
+[ "$(wc -l <"$work/codes")" -eq 12 ] || { echo "services: $codes has not 12 codes that can be read"; exit 1; }
+awk '
+    /---- codes/ { on = 1 }
+    on && /^};/ { exit }
+    on && /^ *GRITGARLAND_/ { gsub(/[=,]/, " "); sub(/^GRITGARLAND_/, "", $1); print $2, $1 }
+' "$header" | sort -n >"$work/constants"
+cp "$work/codes" "$work/wanted"
+tr -d _ <"$work/constants" >"$work/is"
+same "the codes of $header"
+
+awk '
+    { name[$1] = $2 }
+    END { for (i = -400; i <= 400; i++) print "code", i, (i in name ? name[i] : "no such code") }
+' "$work/constants" >"$work/wanted"
+grep '^code' "$work/named" >"$work/is"
+same "the codes' names of $names"
+
+cp "$work/constants" "$work/wanted"
+awk -F'|' '
+    /^## / { on = $0 == "## Codes" }
+    on && /^\| -?[0-9]+ \|/ { gsub(/ /, "", $2); gsub(/ /, "", $3); print $2, $3 }
+' "$page" | sort -n >"$work/is"
+same "the codes of $page"
 
 # ---- the page: the services with their numbers, and the context that each refuses
 awk '{ line = $1 " " $2 " " $3; for (i = 4; i <= 7; i++) line = line " | " ($i == "pattern" ? "bits" : $i); print line }' "$work/table" >"$work/wanted"

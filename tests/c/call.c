@@ -4,8 +4,8 @@
 #include "libc.h"
 #include "same.h"
 
-_Static_assert(sizeof(gritgarland_wait) == 12 && offsetof(gritgarland_wait, remaining) == 4, "a wait");
-_Static_assert(sizeof(gritgarland_task) == 24 && offsetof(gritgarland_task, wait) == 8 && offsetof(gritgarland_task, handed) == 20, "a task's record");
+_Static_assert(sizeof(gritgarland_wait) == 12 && offsetof(gritgarland_wait, spare) == 3 && offsetof(gritgarland_wait, remaining) == 4, "a wait");
+_Static_assert(sizeof(gritgarland_task) == 24 && offsetof(gritgarland_task, spare) == 7 && offsetof(gritgarland_task, wait) == 8 && offsetof(gritgarland_task, handed) == 20, "a task's record");
 _Static_assert(sizeof(gritgarland_queue) == 24 && sizeof(gritgarland_numbers) == 428, "a queue, and the numbers");
 _Static_assert(sizeof(gritgarland_state) == 2276 && sizeof(gritgarland_reply) == 2288, "a state");
 _Static_assert(offsetof(gritgarland_state, levels) == 600 && offsetof(gritgarland_state, waits) == 1344, "the queues");

@@ -1,4 +1,4 @@
-/* Whole lists from C, as the editor calls them: the worked list, every refusal, and every byte of the buffer before and after. */
+/* Whole lists from C, by both names of the function: the worked list, every refusal, and every byte of the buffer before and after. */
 #include "gritgarland.h"
 #include "libc.h"
 
@@ -22,18 +22,26 @@ static size_t length(const char *text)
     return n;
 }
 
-/* Runs n bytes of `file` with room for so many; the number it must give and, if it is not negative, the text it must write. */
-static void run(size_t n, size_t room, int64_t number, const char *text, const char *what)
+typedef int64_t entry(const uint8_t *file, size_t file_length, uint8_t *answer, size_t answer_length);
+
+static void run_by(entry *list, size_t n, size_t room, int64_t number, const char *text, const char *what)
 {
     for (size_t i = 0; i < sizeof before; i++)
         before[i] = (uint8_t)(i * 37 + 11);
     memcpy(after, before, sizeof after);
-    int64_t got = run_list(file, n, after, room);
+    int64_t got = list(file, n, after, room);
     size_t written = got > 0 ? (size_t)got : 0;
     expect(got == number, what);
     expect(written <= room, what);
     expect(text == NULL || (written == length(text) && memcmp(after, text, written) == 0), what);
     expect(memcmp(after + written, before + written, sizeof after - written) == 0, what);
+}
+
+/* Runs n bytes of `file` with room for so many; the number it must give and, if it is not negative, the text it must write. */
+static void run(size_t n, size_t room, int64_t number, const char *text, const char *what)
+{
+    run_by(run_list, n, room, number, text, what);
+    run_by(gritgarland_run_list, n, room, number, text, what);
 }
 
 static size_t put(const char *text)

@@ -1,0 +1,242 @@
+/* A board played under the shim of docs/BOARD.md: interrupts that come during calls and between them, tasks that wait, a store that
+   damages the state. What the page says of the shim is looked at here, and what it says of boards without it. */
+#include "board.h"
+#include "libc.h"
+#include "same.h"
+
+typedef void happening(void);
+
+static int failures;
+static uint32_t masked; /* 1: interrupts are masked */
+static bool in_interrupt, relays, halted;
+static happening *const *to_come; /* what happens while others run, ending in NULL */
+static happening *during;         /* an interrupt that comes in the middle of the next call */
+static happening *waiting;        /* and is held back by the mask */
+static happening *bodies[3];      /* of the tasks, until they begin */
+static uint32_t switches, delivered;
+
+static void expect(int holds, const char *what)
+{
+    if (!holds) {
+        printf("board.c: %s\n", what);
+        failures++;
+    }
+}
+
+/* ---- the board */
+static void deliver(happening *interrupt)
+{
+    expect(masked == 0 && !in_interrupt, "an interrupt comes through the mask");
+    in_interrupt = true;
+    masked = 1;
+    delivered++;
+    interrupt();
+    expect(masked == 1, "a call in an interrupt opens the mask");
+    in_interrupt = false;
+    masked = 0;
+}
+
+uint32_t board_mask(void)
+{
+    uint32_t before = masked;
+    masked = 1;
+    if (during != NULL)
+        waiting = during;
+    during = NULL;
+    return before;
+}
+
+void board_unmask(uint32_t before)
+{
+    happening *held = waiting;
+    masked = before;
+    if (before == 0 && held != NULL) {
+        waiting = NULL;
+        deliver(held);
+    }
+}
+
+/* Lets others run until `from` does: a task that has not begun begins here, and the rest is interrupts. */
+void board_switch(uint32_t from, uint32_t to)
+{
+    uint32_t mask = masked;
+    expect(to == current && from != to, "who is switched to");
+    switches++;
+    if (in_interrupt)
+        return;
+    masked = 0;
+    while (current != from && !halted) {
+        happening *held = waiting, *body = bodies[current];
+        waiting = NULL;
+        if (held != NULL)
+            deliver(held);
+        else if (bodies[current] = NULL, body != NULL)
+            body();
+        else if (*to_come != NULL)
+            deliver(*to_come++);
+        else
+            break;
+    }
+    masked = mask;
+}
+
+void board_relays_off(void)
+{
+    relays = false;
+}
+
+void board_halt(void)
+{
+    expect(!relays, "it halts with the relays on");
+    halted = true;
+}
+
+static void power_on(void)
+{
+    static happening *const nothing[] = {NULL};
+    kernel = gritgarland_fresh();
+    current = masked = switches = delivered = 0;
+    started = stopped = in_interrupt = relays = halted = false;
+    during = waiting = bodies[0] = bodies[RELAY_TASK] = bodies[SCREEN_TASK] = NULL;
+    to_come = nothing;
+}
+
+/* ---- other interrupts */
+static void release_interrupt(void)
+{
+    ask(GRITGARLAND_I, GRITGARLAND_TASK_IRELEASE_WAIT, RELAY_TASK, 0, 0, 0);
+}
+
+static void looks_too_early(void)
+{
+    expect(kernel.tasks[RELAY_TASK].wait.kind == 2 && gritgarland_wait_code(kernel.tasks[RELAY_TASK].code) == 0, "a wait that lasts looks like one that was served");
+}
+
+static void tick_in_start_up(void)
+{
+    expect(started && current == RELAY_TASK && kernel.tasks[SCREEN_TASK].active == 1, "an interrupt comes into start-up");
+    timer_interrupt();
+}
+
+static void wild_store(void)
+{
+    kernel.tasks[SCREEN_TASK].wakeups = 7;
+}
+
+/* ---- a firing: every way in which a wait ends */
+static void relay_task(void)
+{
+    static happening *const two_ticks[] = {timer_interrupt, looks_too_early, timer_interrupt, NULL};
+    static happening *const a_key[] = {timer_interrupt, key_interrupt, NULL};
+    static happening *const the_door[] = {timer_interrupt, door_interrupt, NULL};
+    static happening *const a_release[] = {release_interrupt, NULL};
+    uint32_t bits = 99;
+    relays = true;
+    expect(current == RELAY_TASK && switches == 1 && kernel.tasks[SCREEN_TASK].active == 1, "the relay task begins when all is created");
+    to_come = two_ticks;
+    expect(acquire(KEY, 2) == GRITGARLAND_TIMEOUT, "no key for two ticks");
+    to_come = a_key;
+    expect(acquire(KEY, GRITGARLAND_ENDLESS) == GRITGARLAND_NO_ERR && *to_come == NULL, "a key ends an endless wait");
+    to_come = the_door;
+    expect(wait_for(DOOR, DOOR_SHUT, GRITGARLAND_OR, 5, &bits) == GRITGARLAND_NO_ERR && bits == DOOR_SHUT, "the door's bits stand in the record");
+    bits = 99;
+    expect(wait_for(DOOR, DOOR_SHUT, GRITGARLAND_OR, 5, &bits) == GRITGARLAND_NO_ERR && bits == DOOR_SHUT, "the door's bits come at once");
+    to_come = a_release;
+    expect(acquire(KEY, 5) == GRITGARLAND_RELEASED, "a wait that is released");
+    expect(acquire(KEY, 0) == GRITGARLAND_WRONG_PARAM, "a wait that does not begin");
+    expect(masked == 0, "the relay task runs without a mask");
+
+    uint32_t time = kernel.numbers.time, before = delivered;
+    during = timer_interrupt;
+    expect(ask(GRITGARLAND_T, GRITGARLAND_SEM_POLLING, KEY, 0, 0, 0).code == GRITGARLAND_TIMEOUT, "a poll, and a tick in the middle of it");
+    expect(delivered == before + 1 && kernel.numbers.time == time + 1, "the tick comes after the poll");
+}
+
+static void screen_task(void)
+{
+    expect(relays, "the relays are on while the screen runs");
+    ask(GRITGARLAND_T, GRITGARLAND_TASK_SLEEP, GRITGARLAND_ENDLESS, 0, 0, 0);
+}
+
+static void firing(void)
+{
+    power_on();
+    bodies[RELAY_TASK] = relay_task;
+    during = tick_in_start_up;
+    expect(start() && started && !stopped && delivered > 0 && masked == 0, "start-up");
+    expect(switches >= 8 && gritgarland_is_sound(kernel), "tasks came and went");
+
+    static happening *const ticks[] = {timer_interrupt, timer_interrupt, NULL};
+    power_on();
+    expect(start() && current == RELAY_TASK, "once more");
+    relays = true;
+    bodies[SCREEN_TASK] = screen_task;
+    to_come = ticks;
+    acquire(KEY, GRITGARLAND_ENDLESS); /* the play ends in this wait */
+    expect(current == 0 && relays && !stopped && kernel.numbers.time == 2, "all wait: the board idles with the relays as they are");
+}
+
+/* ---- a damaged state: relays off, for good */
+static void damage(void)
+{
+    static happening *const events[] = {timer_interrupt, wild_store, timer_interrupt, NULL};
+    power_on();
+    expect(start(), "start-up");
+    relays = true;
+    to_come = events;
+    acquire(KEY, GRITGARLAND_ENDLESS);
+    expect(stopped && halted && !relays && *to_come == NULL, "a tick finds the damage and stops the board");
+    gritgarland_state found = kernel;
+    kernel.tasks[SCREEN_TASK].wakeups = 0;
+    expect(ask(GRITGARLAND_I, GRITGARLAND_TICK_INT_PROCESSING, 0, 0, 0, 0).code == GRITGARLAND_UNSOUND && kernel.numbers.time == found.numbers.time, "and it stays stopped");
+
+    /* without the shim: whoever looks at `running` alone idles with the relays on, as if all tasks waited */
+    gritgarland_report r = gritgarland_tick_int_processing(&found, GRITGARLAND_I);
+    uint32_t naive = RELAY_TASK;
+    relays = true;
+    if (r.running != naive)
+        naive = r.running;
+    expect(naive == 0 && relays && r.code == GRITGARLAND_UNSOUND, "a naive switch idles with the relays on");
+}
+
+/* ---- what the page says of boards that do otherwise */
+static void otherwise(void)
+{
+    power_on();
+    expect(start(), "start-up");
+    gritgarland_reply slow = gritgarland_call(kernel, GRITGARLAND_T, GRITGARLAND_SEM_SIGNAL, KEY, 0, 0, 0);
+    gritgarland_tick_int_processing(&kernel, GRITGARLAND_I);
+    kernel = slow.state;
+    expect(kernel.numbers.time == 0, "without a mask a tick in the middle of a call is lost");
+
+    gritgarland_state lent = kernel;
+    expect(gritgarland_sem_acquire(&lent, GRITGARLAND_I, KEY, 5).code == GRITGARLAND_WCONTEXT && same(&lent, &kernel), "an interrupt that waits is refused");
+    expect(gritgarland_sem_acquire(&lent, GRITGARLAND_T, KEY, 5).code == GRITGARLAND_NO_ERR, "but if it says T it takes the running task's key");
+    expect(gritgarland_sem_acquire(&lent, GRITGARLAND_T, KEY, 5).code == GRITGARLAND_PENDING && lent.tasks[RELAY_TASK].wait.kind == 2, "or puts that task to wait");
+
+    lent = gritgarland_fresh();
+    expect(gritgarland_task_create(&lent, GRITGARLAND_T, SCREEN_TASK, 10, 1).running == SCREEN_TASK, "start-up ends with the first runnable task");
+    expect(gritgarland_task_sleep(&lent, GRITGARLAND_T, 1).code == GRITGARLAND_PENDING && lent.tasks[SCREEN_TASK].wait.kind == 1, "a sleep of start-up code is that task's");
+
+    lent = gritgarland_fresh();
+    gritgarland_task_create(&lent, GRITGARLAND_T, RELAY_TASK, 2, 1);
+    gritgarland_task_activate(&lent, GRITGARLAND_T, RELAY_TASK);
+    expect(gritgarland_task_exit(&lent, GRITGARLAND_T).running == RELAY_TASK, "a task that exits with an activation counted runs again at once");
+
+    power_on();
+    gritgarland_sem_create(&kernel, GRITGARLAND_T, KEY, 0, 1);
+    expect(!start() && !started && switches == 0 && !relays, "the first creation is refused: nothing runs");
+    power_on();
+    gritgarland_task_create(&kernel, GRITGARLAND_T, RELAY_TASK, 2, 0);
+    expect(!start() && !started && switches == 0 && !relays, "the last creation is refused: nothing runs");
+}
+
+int main(void)
+{
+    firing();
+    damage();
+    otherwise();
+    if (failures == 0)
+        printf("board.c: all as it must be\n");
+    return failures != 0;
+}
