@@ -11,6 +11,28 @@ fn say(text: &[u8], n: u32) {
     io::write_all(STDOUT_FILENO, b"\n");
 }
 
+// A wait code in the paper's number: one of the four that a wait ends with.
+fn say_code(text: &[u8], code: i32) {
+    io::write_all(STDOUT_FILENO, text);
+    if code == 0 {
+        io::write_all(STDOUT_FILENO, b"0\n");
+        return;
+    }
+    if code == -4 {
+        io::write_all(STDOUT_FILENO, b"-4\n");
+        return;
+    }
+    if code == -10 {
+        io::write_all(STDOUT_FILENO, b"-10\n");
+        return;
+    }
+    if code == -11 {
+        io::write_all(STDOUT_FILENO, b"-11\n");
+        return;
+    }
+    io::write_all(STDOUT_FILENO, b"no wait code\n");
+}
+
 // The state after a call from a task.
 fn asked(s: State, a: Call) -> State {
     let r = kernel::call(s, Context::T, a);
@@ -40,6 +62,15 @@ fn remaining(s: State, t: usize) -> u32 {
         let x = tasks[t];
         let w = x.wait;
         return w.remaining;
+    }
+    0
+}
+
+fn wait_code(s: State, t: usize) -> i32 {
+    let tasks = s.tasks;
+    if t < 25 {
+        let x = tasks[t];
+        return records::wait_number(x.code);
     }
     0
 }
@@ -89,6 +120,7 @@ fn case_4() {
     say(b"case 4: task 1 has ticks left ", remaining(before, 1));
     let after = ticked(before, 1);
     say(b"case 4: after tick 65535 runs ", running(after));
+    say_code(b"case 4: task 1's wait code is ", wait_code(after, 1));
     say(b"case 4: task 2 has ticks left ", remaining(after, 2));
 }
 

@@ -3,7 +3,7 @@
 ghost use mathlib.Core.Path.{_≡_};
 ghost use mathlib.Core.Bool.{true};
 ghost use lib.ListN.{length};
-ghost use Rattle.model.specs.Code.{isNegative};
+ghost use Rattle.model.specs.Code.{isNegative, waitNumber};
 ghost use Rattle.model.specs.Test.{isSound};
 ghost use Rattle.border.specs.Border.{reply};
 ghost use Rattle.gritgarland.specs.Report.{reportOf};
@@ -51,7 +51,9 @@ pub extern "C" fn gritgarland_call_in_place(
         × (isNegative (r .code) ≡ true → now (s .exit) ≡ now (s .entry))) ⌝ }
 {
     let r = border::call_by_number(*s, context, service, a, b, c, d);
-    *s = r.state;
+    if 0 <= r.code {
+        *s = r.state;
+    }
     Report {
         code: r.code,
         running: r.running,
@@ -67,10 +69,26 @@ pub extern "C" fn gritgarland_is_sound(s: State) -> bool
     sound::is_sound(s)
 }
 
+// The code with which a wait ended, from what a task's record keeps of it.
+#[no_mangle]
+pub extern "C" fn gritgarland_wait_code(kept: u8) -> i32
+    ensures { λ r. ⌜ r ≡ waitNumber kept ⌝ }
+{
+    records::wait_number(kept)
+}
+
 // A whole list of calls: the file's bytes and an answer buffer in, one signed number out.
+#[no_mangle]
+pub extern "C" fn gritgarland_run_list(file: &[u8], answer: &mut [u8]) -> i64
+    ensures { λ r. ⌜ (r ≡ signedOf (ranOf (now (file .entry)) (length (now (answer .entry))))) × (now (answer .exit) ≡ bufferOf (ranOf (now (file .entry)) (length (now (answer .entry)))) (now (file .entry)) (now (answer .entry))) ⌝ }
+{
+    runner::run_list(file, answer)
+}
+
+// The same by its first name, for callers that were written before it had the longer one.
 #[no_mangle]
 pub extern "C" fn run_list(file: &[u8], answer: &mut [u8]) -> i64
     ensures { λ r. ⌜ (r ≡ signedOf (ranOf (now (file .entry)) (length (now (answer .entry))))) × (now (answer .exit) ≡ bufferOf (ranOf (now (file .entry)) (length (now (answer .entry)))) (now (file .entry)) (now (answer .entry))) ⌝ }
 {
-    runner::run_list(file, answer)
+    gritgarland_run_list(file, answer)
 }

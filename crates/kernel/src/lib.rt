@@ -82,7 +82,7 @@ fn call_in(
 pub fn call(s: State, c: Context, a: Call) -> Answer
     ensures { λ r. ⌜ r ≡ call s c a ⌝ }
 {
-    let mut bytes = [0u8; 250];
+    let mut bytes = [0u8; 300];
     let mut words = [0u32; 75];
     let mut levels = [0u8; 744];
     let mut waits = [0u8; 504];

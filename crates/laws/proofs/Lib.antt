@@ -9,3 +9,4 @@ pub mod Room
 pub mod Bits
 pub mod Record
 pub mod Waits
+pub mod Negated

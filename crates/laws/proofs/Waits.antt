@@ -59,8 +59,8 @@ module _ (x : Task) where
   ask-of k = record { asks = k .asks; silent = k .silent }
 
   pub sound-of : (1 ≤ x .base) × (x .base ≤ 30) → (1 ≤ x .priority) × (x .priority ≤ 30) → x .active ≤ 1 → x .suspended ≤ 1 → x .wakeups ≤ 1 → x .activations ≤ 1
-      → So (isWaitCode (x .code)) → (x .active ≡ 0 → Resting x) → WaitOf x → SoundAsk (x .wait) → SoundTask x
-  sound-of base priority active suspended wakeups activations code dormant w a = record {
+      → So (isWaitCode (x .code)) → (x .spare ≡ 0) × (x .wait .spare ≡ 0) → (x .active ≡ 0 → Resting x) → WaitOf x → SoundAsk (x .wait) → SoundTask x
+  sound-of base priority active suspended wakeups activations code spare dormant w a = record {
     blank = λ e. absurd (omega arith);
     base = base .1;
     priority = λ h. priority;
@@ -69,6 +69,7 @@ module _ (x : Task) where
     wakeups = wakeups;
     activations = activations;
     code = code;
+    spare = spare;
     dormant = dormant;
     wait = w .wait;
     waiting = w .waiting;

@@ -15,7 +15,7 @@ use Rattle.model.specs.Row
 use Rattle.model.specs.Row.{row, withRow}
 use Rattle.model.specs.Flag
 use Rattle.model.specs.Task as Record
-use Rattle.model.specs.Task.{noTask, ofActive, ofCode, ofHanded, with, withWait, asleep, onSemaphore, onFlag, dormant, activated, waiting, withPriority, withSuspended, withWakeups, withActivations, withRemaining}
+use Rattle.model.specs.Task.{noTask, ofActive, ofCode, ofHanded, ofSpare, with, withWait, asleep, onSemaphore, onFlag, dormant, activated, waiting, withPriority, withSuspended, withWakeups, withActivations, withRemaining}
 use Rattle.model.specs.State
 use Rattle.model.specs.State.{fresh, task, moved, counted, flagged, sliced, withCharge}
 use Rattle.model.specs.Plan
@@ -58,11 +58,15 @@ withActive x n = with ofActive n x
 
 -- another kind of wait and object
 withObject : Task → ℕ → ℕ → Task
-withObject x w n = let y = x .wait in withWait (record { kind = w; object = n; mode = y .mode; remaining = y .remaining; pattern = y .pattern }) x
+withObject x w n = let y = x .wait in withWait (record { kind = w; object = n; mode = y .mode; spare = y .spare; remaining = y .remaining; pattern = y .pattern }) x
 
 -- what is asked for, and what is handed over
 withAsk : Task → ℕ → ℕ → ℕ → Task
-withAsk x p m b = let y = x .wait in with ofHanded b (withWait (record { kind = y .kind; object = y .object; mode = m; remaining = y .remaining; pattern = p }) x)
+withAsk x p m b = let y = x .wait in with ofHanded b (withWait (record { kind = y .kind; object = y .object; mode = m; spare = y .spare; remaining = y .remaining; pattern = p }) x)
+
+-- the unused byte of its wait
+withUnused : Task → ℕ → Task
+withUnused x n = let y = x .wait in withWait (record { kind = y .kind; object = y .object; mode = y .mode; spare = n; remaining = y .remaining; pattern = y .pattern }) x
 
 abbrev runner : Task
 runner = activated (dormant 5)
@@ -115,6 +119,8 @@ damaged =
     ∷ flagged 2 2 6 sound ∷ flagged 2 2 14 sound ∷ moved 8 (waiting (activated (dormant 9)) (onFlag 2 8 0 9)) sound ∷ flagged 2 0 0 sound ∷ moved 7 (withObject asker 3 9) sound ∷ moved 7 (withObject asker 4 2) sound
     -- a flag not created has no bits; a created one has attributes 0, 1 or 3
     ∷ flagged 3 0 1 sound ∷ flagged 3 3 0 sound ∷ flagged 3 5 0 sound
+    -- the unused bytes hold 0, of a created task and of one that is not
+    ∷ recorded 1 (with ofSpare 1 runner) ∷ recorded 2 (withUnused waiter 255) ∷ recorded 1 (withUnused runner 1) ∷ recorded 9 (with ofSpare 1 noTask) ∷ recorded 9 (withUnused noTask 1)
     -- the tables have their places, and each queue has its own
     ∷ tabled (0 ∷ []) ∷ shortened 5 ∷ narrowed 3
     -- place 0 of every table is unused
@@ -126,7 +132,7 @@ noneIsSound [] = true
 noneIsSound (s ∷ rest) = not (Test.isSound s) && noneIsSound rest
 
 pub tells : So (Test.isSound sound && noneIsSound damaged)
-unfolding sound damaged recorded levelled queued tabled shortened narrowed withCode withObject withActive withAsk noneIsSound State.moved State.counted State.flagged State.sliced Row.place Row.gap Row.joined Row.left Row.row Row.withRow Row.leftRow Row.joinedRow Row.relisted Record.levelOf Record.rowOf Flag.isFlagAttributes Flag.isMet Flag.flagRow Test.below Test.everyRow Test.occ Test.zeros Test.listsOnly Test.isFiled Test.listsExactly Test.isTaskSound Test.isRateSound Test.isCountSound Test.isFlagSound Test.isUnmet Test.isSound Plan.within
+unfolding sound damaged recorded levelled queued tabled shortened narrowed withCode withObject withActive withAsk withUnused noneIsSound State.moved State.counted State.flagged State.sliced Row.place Row.gap Row.joined Row.left Row.row Row.withRow Row.leftRow Row.joinedRow Row.relisted Record.levelOf Record.rowOf Flag.isFlagAttributes Flag.isMet Flag.flagRow Test.below Test.everyRow Test.occ Test.zeros Test.listsOnly Test.isFiled Test.listsExactly Test.isTaskSound Test.isRateSound Test.isCountSound Test.isFlagSound Test.isUnmet Test.isSound Plan.within
 tells = tt
 
 -- any state that fails the test gets UNSOUND and task 0, and comes back as it was

@@ -7,11 +7,12 @@ use Rattle.model.specs.declared.State.{State}
 use Rattle.model.specs.declared.Call.{Call}
 use Rattle.model.specs.declared.Call.the-variants.{TaskCreate, TaskActivate, TaskExit, TaskTerminate, TaskSuspend, TaskResume, TaskSleep, TaskWakeup, TaskIwakeup, TaskChangePriority, SysTsliceTicks, SemCreate, SemDelete, SemSignal, SemIsignal, SemAcquire, SemPolling}
 use Rattle.model.specs.State.{fresh, withTime}
-use Rattle.model.specs.Bench.{time, waitCode, suspended, priority, remaining, wakeups, order, charged, queue, counted, shows, Case, allHold}
-use Rattle.model.proofs.Words.{ok, pending, minus, task, int, ticks, from0, opened}
+use Rattle.model.specs.Code.{minus}
+use Rattle.model.specs.Bench.{time, waitCode, suspended, priority, remaining, wakeups, handed, order, charged, queue, counted, shows, Case, allHold}
+use Rattle.model.proofs.Words.{ok, pending, task, int, ticks, from0, opened}
 
-late : State
-late = withTime 4294967295 fresh
+at : ℕ → State
+at n = withTime n fresh
 
 pub table : List Case
 table =
@@ -20,9 +21,9 @@ table =
     (task (SysTsliceTicks 6 2) ok 0 ∷ task (TaskCreate 1 6 1) ok 1 ∷ task (TaskCreate 2 6 1) ok 1 ∷ task (TaskCreate 3 6 1) ok 1
     ∷ ticks 1 ∷ ticks 2 ∷ ticks 2 ∷ ticks 3 ∷ ticks 3 ∷ ticks 1 ∷ [])
     -- 2: acquire with timeout 1, empty
-    ∷ from0 (task (SemCreate 1 0 1) ok 0 ∷ task (TaskCreate 1 5 1) ok 1 ∷ task (SemAcquire 1 1) pending 0 ∷ ticks 1 ∷ shows (waitCode 1) (4 ∷ []) ∷ [])
+    ∷ from0 (task (SemCreate 1 0 1) ok 0 ∷ task (TaskCreate 1 5 1) ok 1 ∷ task (SemAcquire 1 1) pending 0 ∷ ticks 1 ∷ waitCode 1 (minus 4) ∷ [])
     -- 3: sleep 1
-    ∷ from0 (task (TaskCreate 1 5 1) ok 1 ∷ task (TaskSleep 1) pending 0 ∷ ticks 1 ∷ shows (waitCode 1) (0 ∷ []) ∷ [])
+    ∷ from0 (task (TaskCreate 1 5 1) ok 1 ∷ task (TaskSleep 1) pending 0 ∷ ticks 1 ∷ waitCode 1 ok ∷ [])
     -- 4: a tick leaves the timeout 4,294,967,295, and lets 65,535 fall
     ∷ from0
     (task (TaskCreate 1 5 1) ok 1 ∷ task (TaskSleep 4294967295) pending 0 ∷ task (TaskCreate 2 5 1) ok 2 ∷ task (TaskSleep 65535) pending 0
@@ -30,17 +31,17 @@ table =
     -- 5: a suspended waiter times out
     ∷ from0
     (task (SemCreate 1 0 1) ok 0 ∷ task (TaskCreate 1 5 1) ok 1 ∷ task (SemAcquire 1 1) pending 0 ∷ task (TaskSuspend 1) ok 0
-    ∷ ticks 0 ∷ shows (waitCode 1) (4 ∷ []) ∷ shows (suspended 1) (1 ∷ []) ∷ task (TaskResume 1) ok 1 ∷ [])
+    ∷ ticks 0 ∷ waitCode 1 (minus 4) ∷ shows (suspended 1) (1 ∷ []) ∷ task (TaskResume 1) ok 1 ∷ [])
     -- 6: start 1, maximum 1
     ∷ from0 (task (SemCreate 1 1 1) ok 0 ∷ task (SemSignal 1) (minus 1) 0 ∷ [])
     -- 7: queue 3 then 1, equal priority, deleted
     ∷ from0
     (task (SemCreate 1 0 1) ok 0 ∷ task (TaskCreate 3 5 1) ok 3 ∷ task (SemAcquire 1 9) pending 0 ∷ task (TaskCreate 1 5 1) ok 1 ∷ task (SemAcquire 1 9) pending 0
-    ∷ shows (queue 1) (3 ∷ 1 ∷ []) ∷ task (SemDelete 1) ok 3 ∷ shows (waitCode 3) (10 ∷ []) ∷ shows (waitCode 1) (10 ∷ []) ∷ shows (order 5) (3 ∷ 1 ∷ []) ∷ [])
+    ∷ shows (queue 1) (3 ∷ 1 ∷ []) ∷ task (SemDelete 1) ok 3 ∷ waitCode 3 (minus 10) ∷ waitCode 1 (minus 10) ∷ shows (order 5) (3 ∷ 1 ∷ []) ∷ [])
     -- 8: acquire of 13; of uncreated 2 with timeout 0, and 1
     ∷ from0 (task (TaskCreate 1 5 1) ok 1 ∷ task (SemAcquire 13 1) (minus 5) 1 ∷ task (SemAcquire 2 0) (minus 5) 1 ∷ task (SemAcquire 2 1) (minus 9) 1 ∷ [])
     -- 9: the time wraps
-    ∷ record { start = late; steps = ticks 0 ∷ shows time (0 ∷ []) ∷ [] }
+    ∷ record { start = at 4294967295; steps = ticks 0 ∷ shows time (0 ∷ []) ∷ [] }
     -- 10: two wakeups of an awake task
     ∷ from0 (task (TaskCreate 1 5 1) ok 1 ∷ task (TaskWakeup 1) ok 1 ∷ int (TaskIwakeup 1) (minus 1) 1 ∷ [])
     -- 11: priority 0 or 31 at creation; 1 and 30
@@ -53,24 +54,27 @@ table =
     ∷ from0
     (task (SemCreate 1 0 1) ok 0 ∷ task (TaskCreate 1 5 1) ok 1 ∷ task (TaskCreate 2 5 1) ok 1 ∷ task (SemAcquire 1 2) pending 2 ∷ ticks 2
     ∷ int (SemIsignal 1) ok 2 ∷ task (SemSignal 1) ok 2 ∷ task (SemSignal 1) (minus 1) 2 ∷ task TaskExit ok 1 ∷ task (SemPolling 1) ok 1 ∷ [])
-    -- the corners. Charge and rotation come before the timeouts
+    -- the corners. The time wraps nowhere else
+    ∷ record { start = at 2147483647; steps = ticks 0 ∷ shows time (2147483648 ∷ []) ∷ [] }
+    -- charge and rotation come before the timeouts
     ∷ from0
     (task (SysTsliceTicks 6 1) ok 0 ∷ task (TaskCreate 3 6 1) ok 3 ∷ task (TaskSleep 1) pending 0 ∷ task (TaskCreate 1 6 1) ok 1 ∷ task (TaskCreate 2 6 1) ok 1
     ∷ ticks 2 ∷ shows (order 6) (2 ∷ 1 ∷ 3 ∷ []) ∷ [])
     -- a waiter that is activated once more and terminated is runnable at once, with code 0
     ∷ from0
     (task (SemCreate 1 0 1) ok 0 ∷ task (TaskCreate 1 5 1) ok 1 ∷ task (TaskCreate 2 6 1) ok 1 ∷ task (SemAcquire 1 9) pending 2 ∷ task (TaskActivate 1) ok 2
-    ∷ task (TaskTerminate 1) ok 1 ∷ shows (waitCode 1) (0 ∷ []) ∷ shows (queue 1) [] ∷ [])
+    ∷ task (TaskTerminate 1) ok 1 ∷ waitCode 1 ok ∷ shows (queue 1) [] ∷ [])
     -- a task that exits with an activation count is last in the level of its creation
     ∷ from0
     (task (TaskCreate 1 5 1) ok 1 ∷ task (TaskCreate 2 5 1) ok 1 ∷ task (TaskActivate 1) ok 1 ∷ task (TaskChangePriority 1 3) ok 1 ∷ task TaskExit ok 2
     ∷ shows (order 5) (2 ∷ 1 ∷ []) ∷ shows (priority 1) (5 ∷ []) ∷ [])
     -- start-up code polls
     ∷ from0 (task (SemCreate 1 1 1) ok 0 ∷ task (SemPolling 1) ok 0 ∷ [])
-    -- a suspended first waiter is served, the next is not
+    -- a suspended first waiter is served, the next is not; a wakeup that was counted stays, and nothing is handed over
     ∷ from0
     (task (SemCreate 1 0 1) ok 0 ∷ task (TaskCreate 1 5 1) ok 1 ∷ task (SemAcquire 1 9) pending 0 ∷ task (TaskCreate 2 5 1) ok 2 ∷ task (SemAcquire 1 9) pending 0
-    ∷ task (TaskSuspend 1) ok 0 ∷ task (SemSignal 1) ok 0 ∷ shows (waitCode 1) (0 ∷ []) ∷ shows (suspended 1) (1 ∷ []) ∷ shows (queue 1) (2 ∷ []) ∷ [])
+    ∷ task (TaskSuspend 1) ok 0 ∷ task (TaskWakeup 1) ok 0 ∷ task (SemSignal 1) ok 0 ∷ waitCode 1 ok ∷ shows (suspended 1) (1 ∷ []) ∷ shows (wakeups 1) (1 ∷ []) ∷ shows (handed 1) (0 ∷ [])
+    ∷ shows (queue 1) (2 ∷ []) ∷ [])
     -- a level's charge stays when its tasks leave
     ∷ from0
     (task (SysTsliceTicks 6 3) ok 0 ∷ task (TaskCreate 1 6 1) ok 1 ∷ ticks 1 ∷ ticks 1 ∷ task (TaskSleep 9) pending 0 ∷ task (TaskCreate 2 6 1) ok 2 ∷ task (TaskCreate 3 6 1) ok 2
@@ -91,5 +95,5 @@ table =
     ∷ []
 
 pub bench : So (allHold table)
-unfolding opened table late
+unfolding opened table at
 bench = tt

@@ -1,5 +1,5 @@
--- The words in which the bench tables are written: codes, and a call from a task, from an interrupt, or by the tick; and what the rows
--- compute through. They rest on the form of a row in specs/Bench.
+-- The words in which the bench tables are written: codes, a call from a task, from an interrupt, or by the tick, and calls that are refused;
+-- and what the rows compute through. They rest on the form of a row in specs/Bench.
 use mathlib.Core.List.{List}
 use Prim.Native.Nat.{ℕ}
 use lib.IntN.{ℤ, pos}
@@ -17,17 +17,13 @@ use Rattle.model.specs.Services
 use Rattle.model.specs.Effect
 use Rattle.model.specs.Test
 use Rattle.model.specs.Call as Calls
-use Rattle.model.specs.Code.{waitNumber}
-use Rattle.model.specs.Bench.{Step, asks, gets, Case, listing, holds, allHold}
+use Rattle.model.specs.Bench.{Ask, Refusal, Step, asks, gets, Case, listing, allRefused, areRefused, holds, allHold}
 
 abbrev pub ok : ℤ
 ok = pos 0
 
 abbrev pub pending : ℤ
 pending = pos 1
-
-abbrev pub minus : ℕ → ℤ
-minus n = waitNumber n
 
 abbrev pub task : Call → ℤ → ℕ → Step
 task a v t = asks from.T a v t
@@ -49,7 +45,17 @@ taskGets a v t b = gets from.T a v t b
 abbrev pub intGets : Call → ℤ → ℕ → ℕ → Step
 intGets a v t b = gets from.I a v t b
 
+-- a call that is refused, from T or I; and those that get one code
+abbrev pub T : Call → Ask
+T a = record { context = from.T; asked = a }
+
+abbrev pub I : Call → Ask
+I a = record { context = from.I; asked = a }
+
+abbrev pub each : ℤ → List Ask → Refusal
+each v qs = record { answer = v; calls = qs }
+
 -- what the rows compute through
 unfoldable pub opened : ℕ
-unfolding allHold holds listing Calls.call Calls.step Calls.planned Calls.plan Calls.flagPlan Effect.carried Effect.ticked Effect.lapsed Effect.charged Effect.chargedLevel Effect.deleted Effect.toldFlag Effect.toldAll Effect.stopped State.running State.moved State.counted State.flagged State.sliced State.rotated Row.place Row.gap Row.joined Row.left Row.turned Row.row Row.withRow Row.leftRow Row.joinedRow Row.relisted Row.bestFrom Task.levelOf Task.rowOf Task.aged Task.told Flag.isFlagAttributes Flag.isMet Flag.withBits Flag.withoutBits Flag.bitsLeft Flag.flagRow Test.below Test.everyRow Test.occ Test.zeros Test.listsOnly Test.isFiled Test.listsExactly Test.isTaskSound Test.isRateSound Test.isCountSound Test.isFlagSound Test.isUnmet Test.isSound Services.tasks Services.system Services.semaphores Services.flags Services.services Services.service Services.isMine Plan.within Service.create Service.delete Service.activate Service.exit Service.terminate Service.suspend Service.resume Service.sleep Service.wakeup Service.releaseWait Service.wanted Service.changePriority Service.tsliceTicks Service.tick Service.semCreate Service.semDelete Service.signal Service.acquire Service.polling Service.flagCreate Service.flagDelete Service.meetsFirst Service.flagSet Service.flagClear Service.isOccupied Service.taken Service.flagWait Service.flagPoll
+unfolding allHold holds allRefused areRefused listing Calls.call Calls.step Calls.planned Calls.plan Calls.flagPlan Effect.carried Effect.ticked Effect.lapsed Effect.charged Effect.chargedLevel Effect.deleted Effect.toldFlag Effect.toldAll Effect.stopped State.running State.moved State.counted State.flagged State.sliced State.rotated Row.place Row.gap Row.joined Row.left Row.turned Row.row Row.withRow Row.leftRow Row.joinedRow Row.relisted Row.bestFrom Task.levelOf Task.rowOf Task.aged Task.told Flag.isFlagAttributes Flag.isMet Flag.withBits Flag.withoutBits Flag.bitsLeft Flag.flagRow Test.below Test.everyRow Test.occ Test.zeros Test.listsOnly Test.isFiled Test.listsExactly Test.isTaskSound Test.isRateSound Test.isCountSound Test.isFlagSound Test.isUnmet Test.isSound Services.tasks Services.system Services.semaphores Services.flags Services.services Services.service Services.isMine Plan.within Service.create Service.delete Service.activate Service.exit Service.terminate Service.suspend Service.resume Service.sleep Service.wakeup Service.releaseWait Service.wanted Service.changePriority Service.tsliceTicks Service.tick Service.semCreate Service.semDelete Service.signal Service.acquire Service.polling Service.flagCreate Service.flagDelete Service.meetsFirst Service.flagSet Service.flagClear Service.isOccupied Service.taken Service.flagWait Service.flagPoll
 opened = 0

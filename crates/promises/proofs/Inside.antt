@@ -44,6 +44,7 @@ of-records =
     of records.ended.signature (λ M. records.ended.clauses) (λ M. records.ended.Met.met) (λ w κs a g h o p. plain w result) ∷
     of records.is_met.signature (λ M. records.is_met.clauses) (λ M. records.is_met.Met.met) (λ w κs a g h o p. plain w result) ∷
     of records.told.signature (λ M. records.told.clauses) (λ M. records.told.Met.met) (λ w κs a g h o p. plain w result) ∷
+    of records.wait_number.signature (λ M. records.wait_number.clauses) (λ M. records.wait_number.Met.met) (λ w κs a g h o p. plain w result) ∷
     []
 
 pub of-rows : List Promise

@@ -95,10 +95,10 @@ long R n {ℓ} {κ} {x} {v} i = i .stands ℓ κ (Array R n) x v refl .1 .1 .0 .
 
 -- the bytes and the words of the records
 pub records : {ℓ ℓ₂ : Lifetime} {κ κ₂ : Lft} {x x₂ : RefT (List ℕ)} {X Y : Type 2} {b c v w : List ℕ} {d : List Task} {U : Type 0} {u : U}
-    → Lent u8 250 ℓ κ x b × (Lent u32 75 ℓ₂ κ₂ x₂ v × X) → Lent u8 250 ℓ κ x c × (Lent u32 75 ℓ₂ κ₂ x₂ w × Y) → tasksOf b v ≡ d → tasksOf c w ≡ d
+    → Lent u8 300 ℓ κ x b × (Lent u32 75 ℓ₂ κ₂ x₂ v × X) → Lent u8 300 ℓ κ x c × (Lent u32 75 ℓ₂ κ₂ x₂ w × Y) → tasksOf b v ≡ d → tasksOf c w ≡ d
     → _≡_ {A = Unit {0} × (List ℕ × (List ℕ × U))} (tt, (b, (v, u))) (tt, (c, (w, u)))
 records {b = b} {c = c} {v = v} {w = w} {u = u} i j p q k =
-    (tt, (same-bytes b v c w (long u8 250 (i .0)) (long u8 250 (j .0)) (p ∙ sym q) k, (same-words b v c w (long u32 75 (i .1 .0)) (long u32 75 (j .1 .0)) (p ∙ sym q) k, u)))
+    (tt, (same-bytes b v c w (long u8 300 (i .0)) (long u8 300 (j .0)) (p ∙ sym q) k, (same-words b v c w (long u32 75 (i .1 .0)) (long u32 75 (j .1 .0)) (p ∙ sym q) k, u)))
 
 -- the words alone, where the bytes are only read
 pub words : {ℓ : Lifetime} {κ : Lft} {x : RefT (List ℕ)} {W X Y Z : Type 2} {U : Type 0} {u : U} {v w : List ℕ} {d : List Task} (b : List ℕ)
@@ -117,15 +117,15 @@ queues n {u = u} {l = l} {m = m} i j p q k = (tt, (same-queues n l m (long u8 (n
 
 -- all five, from the state that they stand for or what has one; the outcome is read off
 pub five : {ℓ ℓ₂ ℓ₃ ℓ₄ ℓ₅ : Lifetime} {κ κ₂ κ₃ κ₄ κ₅ : Lft} {x x₂ x₃ x₄ x₅ : RefT (List ℕ)} {X Y : Type 2} {b c v w l m q r n o : List ℕ} {A O : Type 0} {s t d : A} (state : A → State) (off : List ℕ → List ℕ → List ℕ → List ℕ → List ℕ → A → O)
-    → Lent u8 250 ℓ κ x b × (Lent u32 75 ℓ₂ κ₂ x₂ v × (Lent u8 744 ℓ₃ κ₃ x₃ l × (Lent u8 504 ℓ₄ κ₄ x₄ q × (Lent u32 107 ℓ₅ κ₅ x₅ n × X))))
-    → Lent u8 250 ℓ κ x c × (Lent u32 75 ℓ₂ κ₂ x₂ w × (Lent u8 744 ℓ₃ κ₃ x₃ m × (Lent u8 504 ℓ₄ κ₄ x₄ r × (Lent u32 107 ℓ₅ κ₅ x₅ o × Y))))
+    → Lent u8 300 ℓ κ x b × (Lent u32 75 ℓ₂ κ₂ x₂ v × (Lent u8 744 ℓ₃ κ₃ x₃ l × (Lent u8 504 ℓ₄ κ₄ x₄ q × (Lent u32 107 ℓ₅ κ₅ x₅ n × X))))
+    → Lent u8 300 ℓ κ x c × (Lent u32 75 ℓ₂ κ₂ x₂ w × (Lent u8 744 ℓ₃ κ₃ x₃ m × (Lent u8 504 ℓ₄ κ₄ x₄ r × (Lent u32 107 ℓ₅ κ₅ x₅ o × Y))))
     → state s ≡ stateIn b v l q n → state t ≡ stateIn c w m r o → s ≡ d → t ≡ d → off b v l q n s ≡ off c w m r o t
 five {b = b} {c = c} {v = v} {w = w} {l = l} {m = m} {q = q} {r = r} {n = n} {o = o} {s = s} {t = t} state off i j e f g h =
     let a : s ≡ t = g ∙ sym h in
     let z : stateIn b v l q n ≡ stateIn c w m r o = sym e ∙ ap state a ∙ f in
     let ts : tasksOf b v ≡ tasksOf c w = ap (λ (y : State). y .tasks) z in
     λ k. off
-    (same-bytes b v c w (long u8 250 (i .0)) (long u8 250 (j .0)) ts k)
+    (same-bytes b v c w (long u8 300 (i .0)) (long u8 300 (j .0)) ts k)
     (same-words b v c w (long u32 75 (i .1 .0)) (long u32 75 (j .1 .0)) ts k)
     (same-queues 31 l m (long u8 744 (i .1 .1 .0)) (long u8 744 (j .1 .1 .0)) (ap (λ (y : State). y .levels) z) k)
     (same-queues 21 q r (long u8 504 (i .1 .1 .1 .0)) (long u8 504 (j .1 .1 .1 .0)) (ap (λ (y : State). y .waits) z) k)
@@ -134,8 +134,8 @@ five {b = b} {c = c} {v = v} {w = w} {l = l} {m = m} {q = q} {r = r} {n = n} {o 
 
 -- all but the numbers, which are only read
 pub four : {ℓ ℓ₂ ℓ₃ ℓ₄ : Lifetime} {κ κ₂ κ₃ κ₄ : Lft} {x x₂ x₃ x₄ : RefT (List ℕ)} {X Y : Type 2} {b c v w l m q r : List ℕ} {d : State} {U : Type 0} {u : U} (n : List ℕ)
-    → Lent u8 250 ℓ κ x b × (Lent u32 75 ℓ₂ κ₂ x₂ v × (Lent u8 744 ℓ₃ κ₃ x₃ l × (Lent u8 504 ℓ₄ κ₄ x₄ q × X)))
-    → Lent u8 250 ℓ κ x c × (Lent u32 75 ℓ₂ κ₂ x₂ w × (Lent u8 744 ℓ₃ κ₃ x₃ m × (Lent u8 504 ℓ₄ κ₄ x₄ r × Y)))
+    → Lent u8 300 ℓ κ x b × (Lent u32 75 ℓ₂ κ₂ x₂ v × (Lent u8 744 ℓ₃ κ₃ x₃ l × (Lent u8 504 ℓ₄ κ₄ x₄ q × X)))
+    → Lent u8 300 ℓ κ x c × (Lent u32 75 ℓ₂ κ₂ x₂ w × (Lent u8 744 ℓ₃ κ₃ x₃ m × (Lent u8 504 ℓ₄ κ₄ x₄ r × Y)))
     → stateIn b v l q n ≡ d → stateIn c w m r n ≡ d
     → _≡_ {A = Unit {0} × (List ℕ × (List ℕ × (List ℕ × (List ℕ × (Unit {0} × U)))))} (tt, (b, (v, (l, (q, (tt, u)))))) (tt, (c, (w, (m, (r, (tt, u))))))
 four {b = b} {c = c} {v = v} {w = w} {l = l} {m = m} {q = q} {r = r} {u = u} n i j e f =
@@ -144,7 +144,7 @@ four {b = b} {c = c} {v = v} {w = w} {l = l} {m = m} {q = q} {r = r} {u = u} n i
     λ k. (
       tt,
       (
-        same-bytes b v c w (long u8 250 (i .0)) (long u8 250 (j .0)) ts k,
+        same-bytes b v c w (long u8 300 (i .0)) (long u8 300 (j .0)) ts k,
         (
           same-words b v c w (long u32 75 (i .1 .0)) (long u32 75 (j .1 .0)) ts k,
           (

@@ -55,7 +55,6 @@ of-answers =
 
 pub of-runner : List Promise
 of-runner =
-    of runner.run.signature (λ M. runner.run.clauses) (λ M. runner.run.Met.met) (λ w κs a g h o p. plain w answer) ∷
     of runner.run_list.signature (λ M. runner.run_list.clauses) (λ M. runner.run_list.Met.met) (λ w κs a g h o p. plain w answer) ∷
     []
 
@@ -64,5 +63,7 @@ of-gritgarland =
     of gritgarland.gritgarland_call.signature (λ M. gritgarland.gritgarland_call.clauses) (λ M. gritgarland.gritgarland_call.Met.met) (λ w κs a g h o p. plain w result) ∷
     of gritgarland.gritgarland_call_in_place.signature (λ M. gritgarland.gritgarland_call_in_place.clauses) (λ M. gritgarland.gritgarland_call_in_place.Met.met) (λ w κs a g h o p. plain w besides) ∷
     of gritgarland.gritgarland_is_sound.signature (λ M. gritgarland.gritgarland_is_sound.clauses) (λ M. gritgarland.gritgarland_is_sound.Met.met) (λ w κs a g h o p. plain w result) ∷
+    of gritgarland.gritgarland_wait_code.signature (λ M. gritgarland.gritgarland_wait_code.clauses) (λ M. gritgarland.gritgarland_wait_code.Met.met) (λ w κs a g h o p. plain w result) ∷
+    of gritgarland.gritgarland_run_list.signature (λ M. gritgarland.gritgarland_run_list.clauses) (λ M. gritgarland.gritgarland_run_list.Met.met) (λ w κs a g h o p. plain w answer) ∷
     of gritgarland.run_list.signature (λ M. gritgarland.run_list.clauses) (λ M. gritgarland.run_list.Met.met) (λ w κs a g h o p. plain w answer) ∷
     []

@@ -1,6 +1,7 @@
-// One task's record: which queues list it, and the records that calls make of it.
-// Each function is a definition of model/specs/Task, for every value; it rests on model alone.
+// One task's record: which queues list it, the records that calls make of it, and how its last wait ended.
+// Each function is a definition of model/specs/Task, for every value; it rests on model and, for a sign, on a law of laws.
 ghost use mathlib.Core.Path.{_≡_};
+ghost use Rattle.model.specs.Code.{waitNumber};
 ghost use Rattle.model.specs.Flag.{isMet, flagRow};
 ghost use Rattle.model.specs.Task.{noWait, asleep, onSemaphore, onFlag, noTask, levelOf, rowOf, dormant, activated, created, withPriority, withSuspended, withWakeups, withActivations, waiting, ended, told};
 use model::News;
@@ -82,6 +83,7 @@ fn no_wait() -> Wait
         kind: NOTHING,
         object: 0,
         mode: 0,
+        spare: 0,
         remaining: 0,
         pattern: 0,
     }
@@ -94,6 +96,7 @@ pub fn asleep(timeout: u32) -> Wait
         kind: SLEEP,
         object: 0,
         mode: 0,
+        spare: 0,
         remaining: timeout,
         pattern: 0,
     }
@@ -106,6 +109,7 @@ pub fn on_semaphore(semaphore: u8, timeout: u32) -> Wait
         kind: SEMAPHORE,
         object: semaphore,
         mode: 0,
+        spare: 0,
         remaining: timeout,
         pattern: 0,
     }
@@ -118,6 +122,7 @@ pub fn on_flag(flag: u8, pattern: u32, mode: u8, timeout: u32) -> Wait
         kind: FLAG,
         object: flag,
         mode: mode,
+        spare: 0,
         remaining: timeout,
         pattern: pattern,
     }
@@ -136,6 +141,7 @@ pub fn dormant(p: u8) -> Task
         wakeups: 0,
         activations: 0,
         code: SERVED,
+        spare: 0,
         wait: none,
         handed: 0,
     }
@@ -242,4 +248,11 @@ pub fn told(news: News, x: Task) -> Task
             x
         }
     }
+}
+
+// ---- how the last wait ended: the paper's number of what a record keeps without its sign
+pub fn wait_number(code: u8) -> i32
+    ensures { λ r. ⌜ r ≡ waitNumber code ⌝ }
+{
+    0 - (code as i32)
 }

@@ -1,4 +1,4 @@
--- The signed number that the editor gets: it fits in 64 bits, so it is returned as it is. Rests on Scripts.
+-- The signed number that the editor gets: it fits in 64 bits, so it is returned as it is. Rests on the law of negated numbers (laws).
 use Prim.Native.Nat.{ℕ, zero, suc, _+_, _-_, _<_, _≤_, _^_}
 use mathlib.Core.Path.{_≡_, refl, ap, sym, _∙_, subst}
 use mathlib.Core.Bool.{Bool, true, false, cond}
@@ -6,12 +6,13 @@ use mathlib.Core.List.{List, [], _∷_}
 use native.Mathlib.Omega.{arith}
 use lib.Dec.{eqb, ltb}
 use lib.ListN.{length}
-use lib.IntN.{ℤ, pos, negsuc, _-ℤ_}
-use borrow.Author.Tests.{lt-ltb, ltb-false}
+use lib.IntN.{ℤ}
+use borrow.Author.Tests.{ltb-false}
 use borrow.Author.Needs.{sfits-of}
 use mir.Syntax.{w64}
 use mir.Val.{toZ, ofZ, SFits}
-use mir.Facts.{toZ-pos, toZ-ofZ}
+use mir.Facts.{toZ-ofZ}
+use Rattle.laws.proofs.Negated.{minus-fits}
 use Rattle.text.proofs.Reading.{cond-by}
 use Rattle.model.specs.declared.Context.{Context}
 use Rattle.model.specs.declared.Call.{Call}
@@ -26,26 +27,11 @@ use Rattle.walk.specs.Script.{Script, done, fault, next, lineThen, scriptIn, he
 use Rattle.walk.specs.Rows.{textOf}
 use Rattle.runner.specs.Outcome.{judged, ranOf, signedOf, Small}
 
-neg-suc : (k : ℕ) → pos 0 -ℤ pos (suc k) ≡ negsuc k
-neg-suc k = simp (lt-ltb 0 (suc k) (omega arith)) (ap negsuc (omega arith))
-
-neg-at : (l : ℕ) → l ≤ 65538 → pos 0 -ℤ toZ w64 (l + 10) ≡ negsuc (l + 9)
-neg-at l h =
-    let p : l + 10 < 2 ^ 63 = omega arith in
-    let e : l + 10 ≡ suc (l + 9) = omega arith in
-    ap (λ (z : ℤ). pos 0 -ℤ z) (toZ-pos w64 p ∙ ap pos e) ∙ neg-suc (l + 9)
-
-pub neg-fits : (l : ℕ) → l ≤ 65538 → SFits w64 (pos 0 -ℤ toZ w64 (l + 10))
-neg-fits l h = rw (neg-at l h) (sfits-of (omega arith))
-
-pub neg-back : (l : ℕ) → l ≤ 65538 → toZ w64 (ofZ w64 (pos 0 -ℤ toZ w64 (l + 10))) ≡ negsuc (l + 9)
-neg-back l h = toZ-ofZ (neg-fits l h) ∙ neg-at l h
-
 number-fits : (r : Ran) → Small r → SFits w64 (signedOf r)
 number-fits (Wrote n) h = sfits-of h
 number-fits TooLong h = sfits-of (omega arith)
 number-fits Short h = sfits-of (omega arith)
-number-fits (Unreadable l) h = sfits-of (omega arith)
+number-fits (Unreadable l) h = minus-fits w64 (l + 10) (omega arith)
 
 pub back : (z : ℤ) (r : Ran) → Small r → z ≡ signedOf r → toZ w64 (ofZ w64 z) ≡ signedOf r
 back z r h e = rw e (toZ-ofZ {w = w64} {z = signedOf r} (number-fits r h))

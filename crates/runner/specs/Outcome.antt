@@ -6,7 +6,8 @@ use mathlib.Core.List.{List}
 use lib.Dec.{eqb, ltb}
 use lib.ListN.{length}
 use lib.Seq.{sets}
-use lib.IntN.{ℤ, pos, negsuc}
+use lib.IntN.{ℤ, pos}
+use Rattle.model.specs.Code.{minus}
 use Rattle.runner.specs.declared.Ran.{Ran}
 use Rattle.runner.specs.declared.Ran.the-variants.{Wrote, TooLong, Unreadable, Short}
 use Rattle.walk.specs.Script.{Script, scriptOf, faultOf}
@@ -25,9 +26,9 @@ ranOf file room = cond (ltb 65536 (length file)) TooLong (judged (scriptOf file)
 -- bytes written; -1, file too long; -2, buffer too short; -(10 + line), first unreadable line
 abbrev pub signedOf : Ran → ℤ
 signedOf (Wrote n) = pos n
-signedOf TooLong = negsuc 0
-signedOf Short = negsuc 1
-signedOf (Unreadable l) = negsuc (l + 9)
+signedOf TooLong = minus 1
+signedOf Short = minus 2
+signedOf (Unreadable l) = minus (l + 10)
 
 -- the buffer is written only where the whole answer fits; bytes beyond those written stay
 abbrev pub bufferOf : Ran → List ℕ → List ℕ → List ℕ

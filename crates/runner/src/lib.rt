@@ -46,7 +46,7 @@ fn play(file: &[u8], wide: bool, h: usize) -> Played
     let mut at = h;
     let mut n: usize = 0;
     let mut total: usize = 16;
-    let mut bytes = [0u8; 250];
+    let mut bytes = [0u8; 300];
     let mut words = [0u32; 75];
     let mut levels = [0u8; 744];
     let mut waits = [0u8; 504];
@@ -111,7 +111,7 @@ fn write(answer: &mut [u8], n: usize, codes: [u8; 4096], runs: [u8; 4096])
 }
 
 // A file and an answer buffer: the buffer is written only if every line reads and the whole answer fits.
-pub fn run(file: &[u8], answer: &mut [u8]) -> Ran
+fn run(file: &[u8], answer: &mut [u8]) -> Ran
     ensures { λ r. ⌜ (r ≡ ranOf (now (file .entry)) (length (now (answer .entry)))) × (now (answer .exit) ≡ bufferOf (ranOf (now (file .entry)) (length (now (answer .entry)))) (now (file .entry)) (now (answer .entry))) ⌝ }
 {
     if 65536 < file.len() {
@@ -149,6 +149,7 @@ fn number(r: Ran) -> i64
     }
 }
 
+// The same as one signed number.
 pub fn run_list(file: &[u8], answer: &mut [u8]) -> i64
     ensures { λ r. ⌜ (r ≡ signedOf (ranOf (now (file .entry)) (length (now (answer .entry))))) × (now (answer .exit) ≡ bufferOf (ranOf (now (file .entry)) (length (now (answer .entry)))) (now (file .entry)) (now (answer .entry))) ⌝ }
 {

@@ -149,7 +149,7 @@ pub fn sound_in(
 pub fn is_sound(s: State) -> bool
     ensures { λ r. ⌜ r ≡ isSound s ⌝ }
 {
-    let mut bytes = [0u8; 250];
+    let mut bytes = [0u8; 300];
     let mut words = [0u32; 75];
     let mut levels = [0u8; 744];
     let mut waits = [0u8; 504];

@@ -7,8 +7,8 @@ module _ (a b c d e f g : Bool) where
   pub seven : ((((((a && b) && c) && d) && e) && f) && g) ≡ (a && (b && (c && (d && (e && (f && g))))))
   seven = simp and-assoc
 
-  pub nine : (h i : Bool) → ((((((((a && b) && c) && d) && e) && f) && g) && h) && i) ≡ (a && (b && (c && (d && (e && (f && (g && (h && i))))))))
-  nine h i = simp and-assoc
-
   pub ten : (h i j : Bool) → (((((((((a && b) && c) && d) && e) && f) && g) && h) && i) && j) ≡ (a && (b && (c && (d && (e && (f && (g && (h && (i && j)))))))))
   ten h i j = simp and-assoc
+
+  pub eleven : (h i j k : Bool) → ((((((((((a && b) && c) && d) && e) && f) && g) && h) && i) && j) && k) ≡ (a && (b && (c && (d && (e && (f && (g && (h && (i && (j && k))))))))))
+  eleven h i j k = simp and-assoc

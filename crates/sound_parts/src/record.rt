@@ -4,7 +4,7 @@ ghost use mathlib.Core.Path.{_≡_};
 ghost use mathlib.Core.Bool.{_&&_};
 ghost use lib.Dec.{eqb};
 ghost use Rattle.model.specs.Plan.{within};
-ghost use Rattle.model.specs.Test.{isNoWait, isBlank, isWaitCode, isResting, isWaitSound, isAskSound, isTaskSound, isRateSound, isCountSound};
+ghost use Rattle.model.specs.Test.{isNoWait, isBlank, isWaitCode, isResting, isWaitSound, isAskSound, isSpareSound, isTaskSound, isRateSound, isCountSound};
 use model::Task;
 use model::Wait;
 use records::DLT;
@@ -26,7 +26,8 @@ fn is_no_wait(w: Wait) -> bool
     ensures { λ r. ⌜ r ≡ isNoWait w ⌝ }
 {
     (w.kind == NOTHING)
-        & ((w.object == 0) & ((w.mode == 0) & ((w.remaining == 0) & (w.pattern == 0))))
+        & ((w.object == 0)
+            & ((w.mode == 0) & ((w.spare == 0) & ((w.remaining == 0) & (w.pattern == 0)))))
 }
 
 fn is_blank(x: Task) -> bool
@@ -41,6 +42,7 @@ fn is_blank(x: Task) -> bool
         & (x.wakeups == 0)
         & (x.activations == 0)
         & (x.code == 0)
+        & (x.spare == 0)
         & no_wait
         & (x.handed == 0)
 }
@@ -99,6 +101,12 @@ fn is_ask_sound(w: Wait) -> bool
     (pattern == 0) & (mode == 0)
 }
 
+fn is_spare_sound(x: Task) -> bool
+    ensures { λ r. ⌜ r ≡ isSpareSound x ⌝ }
+{
+    (x.spare == 0) & (x.wait.spare == 0)
+}
+
 pub fn task_sound(x: Task) -> bool
     ensures { λ r. ⌜ r ≡ isTaskSound x ⌝ }
 {
@@ -119,6 +127,7 @@ pub fn task_sound(x: Task) -> bool
     let wait_sound = is_wait_sound(x);
     let wait = x.wait;
     let ask_sound = is_ask_sound(wait);
+    let spare_sound = is_spare_sound(x);
     base_fits
         & priority_fits
         & (active <= 1)
@@ -129,6 +138,7 @@ pub fn task_sound(x: Task) -> bool
         & ((active != 0) | resting)
         & wait_sound
         & ask_sound
+        & spare_sound
 }
 
 pub fn rate_sound(slice: u32, charge: u32) -> bool

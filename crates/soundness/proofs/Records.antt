@@ -47,11 +47,11 @@ row-live x k h = waiting-live x k (λ z. omega (arith, row-waits x h))
 
 -- ---- records that wait for nothing
 pub sound-dormant : (p : ℕ) → 1 ≤ p → p ≤ 30 → SoundTask (dormant p)
-sound-dormant p low top = sound-of (dormant p) (low, top) (low, top) (omega arith) (omega arith) (omega arith) (omega arith) tt (λ e. (refl, refl, refl, refl, refl, refl, refl)) (wait-none 0 0 0) ask-none
+sound-dormant p low top = sound-of (dormant p) (low, top) (low, top) (omega arith) (omega arith) (omega arith) (omega arith) tt (refl, refl) (λ e. (refl, refl, refl, refl, refl, refl, refl)) (wait-none 0 0 0) ask-none
 
 pub sound-activated : (x : Task) → SoundTask x → 1 ≤ x .base → SoundTask (activated x)
 sound-activated x k made =
-    sound-of (activated x) (made, k .base) (k .priority made) (omega arith) (k .suspended) (k .wakeups) (k .activations) (k .code) (λ e. absurd (omega arith)) (wait-of x k) (ask-of x k)
+    sound-of (activated x) (made, k .base) (k .priority made) (omega arith) (k .suspended) (k .wakeups) (k .activations) (k .code) (k .spare) (λ e. absurd (omega arith)) (wait-of x k) (ask-of x k)
 
 pub sound-created : (p o : ℕ) → 1 ≤ p → p ≤ 30 → SoundTask (created p o)
 sound-created p o low top = go (eqb o 0)
@@ -64,53 +64,53 @@ sound-created p o low top = go (eqb o 0)
 module _ (x : Task) (k : SoundTask x) (live : 1 ≤ x .active) where
   -- it stays what it was created as, and live
   still : (y : Task) → y .base ≡ x .base → y .active ≡ x .active → (1 ≤ y .priority) × (y .priority ≤ 30) → y .suspended ≤ 1 → y .wakeups ≤ 1 → y .activations ≤ 1
-      → So (isWaitCode (y .code)) → WaitOf y → SoundAsk (y .wait) → SoundTask y
-  still y same lives priority suspended wakeups activations code =
-      sound-of y (rw same (live-made x k live, k .base)) priority (rw lives (k .active)) suspended wakeups activations code (λ e. absurd (omega arith))
+      → So (isWaitCode (y .code)) → (y .spare ≡ 0) × (y .wait .spare ≡ 0) → WaitOf y → SoundAsk (y .wait) → SoundTask y
+  still y same lives priority suspended wakeups activations code spare =
+      sound-of y (rw same (live-made x k live, k .base)) priority (rw lives (k .active)) suspended wakeups activations code spare (λ e. absurd (omega arith))
 
   priority-now : (1 ≤ x .priority) × (x .priority ≤ 30)
   priority-now = k .priority (live-made x k live)
 
   pub sound-withPriority : (p : ℕ) → 1 ≤ p → p ≤ 30 → SoundTask (withPriority x p)
-  sound-withPriority p low top = still (withPriority x p) refl refl (low, top) (k .suspended) (k .wakeups) (k .activations) (k .code) (wait-of x k) (ask-of x k)
+  sound-withPriority p low top = still (withPriority x p) refl refl (low, top) (k .suspended) (k .wakeups) (k .activations) (k .code) (k .spare) (wait-of x k) (ask-of x k)
 
   pub sound-withSuspended : (n : ℕ) → n ≤ 1 → SoundTask (withSuspended x n)
-  sound-withSuspended n h = still (withSuspended x n) refl refl priority-now h (k .wakeups) (k .activations) (k .code) (wait-of x k) (ask-of x k)
+  sound-withSuspended n h = still (withSuspended x n) refl refl priority-now h (k .wakeups) (k .activations) (k .code) (k .spare) (wait-of x k) (ask-of x k)
 
   pub sound-withActivations : (n : ℕ) → n ≤ 1 → SoundTask (withActivations x n)
-  sound-withActivations n h = still (withActivations x n) refl refl priority-now (k .suspended) (k .wakeups) h (k .code) (wait-of x k) (ask-of x k)
+  sound-withActivations n h = still (withActivations x n) refl refl priority-now (k .suspended) (k .wakeups) h (k .code) (k .spare) (wait-of x k) (ask-of x k)
 
   -- a sleeper's wakeup count is 0
   pub sound-withWakeups : (n : ℕ) → n ≤ 1 → (x .wait .kind ≡ aSleep → n ≡ 0) → SoundTask (withWakeups x n)
   sound-withWakeups n h awake =
-      still (withWakeups x n) refl refl priority-now (k .suspended) h (k .activations) (k .code)
+      still (withWakeups x n) refl refl priority-now (k .suspended) h (k .activations) (k .code) (k .spare)
       (record { wait = k .wait; waiting = k .waiting; free = k .free; sleeper = λ e. (awake e, k .sleeper e .1); object = k .object; flag = k .flag }) (ask-of x k)
 
   pub sound-withRemaining : (d : ℕ) → 1 ≤ d → (x .wait .kind ≡ nothing → ⊥) → SoundTask (withRemaining x d)
   sound-withRemaining d some waits =
-      still (withRemaining x d) refl refl priority-now (k .suspended) (k .wakeups) (k .activations) (k .code)
+      still (withRemaining x d) refl refl priority-now (k .suspended) (k .wakeups) (k .activations) (k .code) (k .spare)
       (record { wait = k .wait; waiting = λ n. (some, k .waiting n .1, k .waiting n .2); free = λ e. absurd (waits e); sleeper = k .sleeper; object = k .object; flag = k .flag }) (record { asks = k .asks; silent = k .silent })
 
   pub sound-ended : (v b : ℕ) → So (isWaitCode v) → SoundTask (ended x v b)
   sound-ended v b h =
-      still (ended x v b) refl refl priority-now (k .suspended) (k .wakeups) (k .activations) h (wait-none (x .wakeups) v b) ask-none
+      still (ended x v b) refl refl priority-now (k .suspended) (k .wakeups) (k .activations) h (k .spare .0, refl) (wait-none (x .wakeups) v b) ask-none
 
   -- a wait begins
-  begins : (w : Wait) → SoundWait w (x .wakeups) 0 0 → SoundAsk w → SoundTask (waiting x w)
-  begins w = still (waiting x w) refl refl priority-now (k .suspended) (k .wakeups) (k .activations) tt
+  begins : (w : Wait) → w .spare ≡ 0 → SoundWait w (x .wakeups) 0 0 → SoundAsk w → SoundTask (waiting x w)
+  begins w unused = still (waiting x w) refl refl priority-now (k .suspended) (k .wakeups) (k .activations) tt (k .spare .0, unused)
 
   pub sound-asleep : (d : ℕ) → 1 ≤ d → x .wakeups ≡ 0 → SoundTask (waiting x (asleep d))
-  sound-asleep d some none = begins (asleep d)
+  sound-asleep d some none = begins (asleep d) refl
       (record { wait = inr (inl refl); waiting = λ n. (some, refl, refl); free = λ e. absurd (omega arith); sleeper = λ e. (none, refl); object = λ e. absurd (omega arith); flag = λ e. absurd (omega arith) })
       (unasked (asleep d) (λ e. omega arith) (refl, refl))
 
   pub sound-queued : (m d : ℕ) → 1 ≤ m → m ≤ 12 → 1 ≤ d → SoundTask (waiting x (onSemaphore m d))
-  sound-queued m d low top some = begins (onSemaphore m d)
+  sound-queued m d low top some = begins (onSemaphore m d) refl
       (record { wait = inr (inr (inl refl)); waiting = λ n. (some, refl, refl); free = λ e. absurd (omega arith); sleeper = λ e. absurd (omega arith); object = λ e. (low, top); flag = λ e. absurd (omega arith) })
       (unasked (onSemaphore m d) (λ e. omega arith) (refl, refl))
 
   pub sound-asking : (f p m d : ℕ) → 1 ≤ f → f ≤ 8 → 1 ≤ d → 1 ≤ p → m ≤ 1 → SoundTask (waiting x (onFlag f p m d))
-  sound-asking f p m d low top some bits mode = begins (onFlag f p m d)
+  sound-asking f p m d low top some bits mode = begins (onFlag f p m d) refl
       (record { wait = inr (inr (inr refl)); waiting = λ n. (some, refl, refl); free = λ e. absurd (omega arith); sleeper = λ e. absurd (omega arith); object = λ e. absurd (omega arith); flag = λ e. (low, top) })
       (record { asks = λ e. (bits, mode); silent = λ n. absurd (n refl) })
 

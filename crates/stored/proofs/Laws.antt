@@ -62,19 +62,19 @@ stores-same (v ∷ vs) l i c zero h g =
 stores-same (v ∷ vs) l i c (suc k) h g =
     ap (λ (n : ℕ). getD (stores (set l (i + c) v) i (suc c) vs) (i + n) 0) (omega arith) ∙ stores-same vs (set l (i + c) v) i (suc c) k (rw length-set (omega arith)) (omega arith)
 
--- a record's ten bytes and three words, as the tables hold them
+-- a record's twelve bytes and three words, as the tables hold them
 abbrev bytesOf : Task → List ℕ
-bytesOf x = x .base ∷ x .priority ∷ x .active ∷ x .suspended ∷ x .wakeups ∷ x .activations ∷ x .code ∷ x .wait .kind ∷ x .wait .object ∷ x .wait .mode ∷ []
+bytesOf x = x .base ∷ x .priority ∷ x .active ∷ x .suspended ∷ x .wakeups ∷ x .activations ∷ x .code ∷ x .spare ∷ x .wait .kind ∷ x .wait .object ∷ x .wait .mode ∷ x .wait .spare ∷ []
 
 abbrev wordsOf : Task → List ℕ
 wordsOf x = x .wait .remaining ∷ x .wait .pattern ∷ x .handed ∷ []
 
 bytes-stores : (b : List ℕ) (i : ℕ) (x : Task) → withWaits (withOwn b i x) i x ≡ stores b i 0 (bytesOf x)
 unfolding stores
-bytes-stores b i x = ap (λ (k : ℕ). stores (set b k (x .base)) i 1 (x .priority ∷ x .active ∷ x .suspended ∷ x .wakeups ∷ x .activations ∷ x .code ∷ x .wait .kind ∷ x .wait .object ∷ x .wait .mode ∷ [])) (sym (add-zero i))
+bytes-stores b i x = ap (λ (k : ℕ). stores (set b k (x .base)) i 1 (x .priority ∷ x .active ∷ x .suspended ∷ x .wakeups ∷ x .activations ∷ x .code ∷ x .spare ∷ x .wait .kind ∷ x .wait .object ∷ x .wait .mode ∷ x .wait .spare ∷ [])) (sym (add-zero i))
 
 -- ---- a record by its places
-byte-at : (b w : List ℕ) (t c : ℕ) → c < 10 → getD b (t * 10 + c) 0 ≡ getD (bytesOf (recordAt b w t)) c 0
+byte-at : (b w : List ℕ) (t c : ℕ) → c < 12 → getD b (t * 12 + c) 0 ≡ getD (bytesOf (recordAt b w t)) c 0
 byte-at b w t zero h = rw add-zero
 byte-at b w t (suc zero) h = refl
 byte-at b w t (suc (suc zero)) h = refl
@@ -85,7 +85,9 @@ byte-at b w t (suc (suc (suc (suc (suc (suc zero)))))) h = refl
 byte-at b w t (suc (suc (suc (suc (suc (suc (suc zero))))))) h = refl
 byte-at b w t (suc (suc (suc (suc (suc (suc (suc (suc zero)))))))) h = refl
 byte-at b w t (suc (suc (suc (suc (suc (suc (suc (suc (suc zero))))))))) h = refl
-byte-at b w t (suc (suc (suc (suc (suc (suc (suc (suc (suc (suc c)))))))))) h = absurd (omega arith)
+byte-at b w t (suc (suc (suc (suc (suc (suc (suc (suc (suc (suc zero)))))))))) h = refl
+byte-at b w t (suc (suc (suc (suc (suc (suc (suc (suc (suc (suc (suc zero))))))))))) h = refl
+byte-at b w t (suc (suc (suc (suc (suc (suc (suc (suc (suc (suc (suc (suc c)))))))))))) h = absurd (omega arith)
 
 word-at : (b w : List ℕ) (t c : ℕ) → c < 3 → getD w (t + c * 25) 0 ≡ getD (wordsOf (recordAt b w t)) c 0
 word-at b w t zero h = rw add-zero
@@ -93,10 +95,10 @@ word-at b w t (suc zero) h = refl
 word-at b w t (suc (suc zero)) h = refl
 word-at b w t (suc (suc (suc c))) h = absurd (omega arith)
 
-by-places : (b w : List ℕ) (t : ℕ) (x : Task) → ((c : ℕ) → c < 10 → getD b (t * 10 + c) 0 ≡ getD (bytesOf x) c 0) → ((c : ℕ) → c < 3 → getD w (t + c * 25) 0 ≡ getD (wordsOf x) c 0)
+by-places : (b w : List ℕ) (t : ℕ) (x : Task) → ((c : ℕ) → c < 12 → getD b (t * 12 + c) 0 ≡ getD (bytesOf x) c 0) → ((c : ℕ) → c < 3 → getD w (t + c * 25) 0 ≡ getD (wordsOf x) c 0)
     → recordAt b w t ≡ x
 by-places b w t x p q =
-    let p₀ : getD b (t * 10) 0 ≡ x .base = rw add-zero at (p 0 (omega arith)) in
+    let p₀ : getD b (t * 12) 0 ≡ x .base = rw add-zero at (p 0 (omega arith)) in
     let q₀ : getD w t 0 ≡ x .wait .remaining = rw add-zero at (q 0 (omega arith)) in
     λ k. record {
       base = p₀ k;
@@ -106,10 +108,12 @@ by-places b w t x p q =
       wakeups = p 4 (omega arith) k;
       activations = p 5 (omega arith) k;
       code = p 6 (omega arith) k;
+      spare = p 7 (omega arith) k;
       wait = record {
-        kind = p 7 (omega arith) k;
-        object = p 8 (omega arith) k;
-        mode = p 9 (omega arith) k;
+        kind = p 8 (omega arith) k;
+        object = p 9 (omega arith) k;
+        mode = p 10 (omega arith) k;
+        spare = p 11 (omega arith) k;
         remaining = q₀ k;
         pattern = q 1 (omega arith) k;
       };
@@ -143,22 +147,22 @@ word-there w t x h i k a c =
     ∙ getD-set-other (set w t (x .wait .remaining)) (t + 25) (i + c * 25) (x .wait .pattern) 0 (λ e. a (omega arith))
     ∙ getD-set-other w t (i + c * 25) (x .wait .remaining) 0 (λ e. a (omega arith))
 
-pub wrote : (b w : List ℕ) (t : ℕ) (x : Task) → length b ≡ 250 → length w ≡ 75 → t < 25 → tasksOf (withWaits (withOwn b (t * 10) x) (t * 10) x) (wordsWith w t x) ≡ set (tasksOf b w) t x
-wrote b w t x m n h = rw (bytes-stores b (t * 10) x) (replaced b w b′ w′ t x h here there)
+pub wrote : (b w : List ℕ) (t : ℕ) (x : Task) → length b ≡ 300 → length w ≡ 75 → t < 25 → tasksOf (withWaits (withOwn b (t * 12) x) (t * 12) x) (wordsWith w t x) ≡ set (tasksOf b w) t x
+wrote b w t x m n h = rw (bytes-stores b (t * 12) x) (replaced b w b′ w′ t x h here there)
   where
     b′ : List ℕ
-    b′ = stores b (t * 10) 0 (bytesOf x)
+    b′ = stores b (t * 12) 0 (bytesOf x)
 
     w′ : List ℕ
     w′ = wordsWith w t x
 
     here : recordAt b′ w′ t ≡ x
-    here = by-places b′ w′ t x (λ c g. rw zero-add at (stores-same (bytesOf x) b (t * 10) 0 c (omega arith) g)) (word-here w t x n h)
+    here = by-places b′ w′ t x (λ c g. rw zero-add at (stores-same (bytesOf x) b (t * 12) 0 c (omega arith) g)) (word-here w t x n h)
 
     there : (i : ℕ) → i < 25 → i ≢ t → recordAt b′ w′ i ≡ recordAt b w i
     there i k a =
         by-places b′ w′ i (recordAt b w i)
-        (λ c g. stores-other (bytesOf x) b (t * 10) 0 (i * 10 + c) (λ d p q e. a (omega arith)) ∙ byte-at b w i c g)
+        (λ c g. stores-other (bytesOf x) b (t * 12) 0 (i * 12 + c) (λ d p q e. a (omega arith)) ∙ byte-at b w i c g)
         (λ c g. word-there w t x h i k a c ∙ word-at b w i c g)
 
 -- ---- one word is stored: a timeout falls
@@ -194,15 +198,15 @@ full r l t m n h f = sym (take-all t r (omega arith)) ∙ f ∙ take-all t l (om
 same-record : (b w b′ w′ : List ℕ) → tasksOf b w ≡ tasksOf b′ w′ → (t : ℕ) → t < 25 → recordAt b w t ≡ recordAt b′ w′ t
 same-record b w b′ w′ e t h = sym (read b w t h) ∙ ap (λ (l : List Task). getD l t noTask) e ∙ read b′ w′ t h
 
-pub same-bytes : (b w b′ w′ : List ℕ) → length b ≡ 250 → length b′ ≡ 250 → tasksOf b w ≡ tasksOf b′ w′ → b ≡ b′
+pub same-bytes : (b w b′ w′ : List ℕ) → length b ≡ 300 → length b′ ≡ 300 → tasksOf b w ≡ tasksOf b′ w′ → b ≡ b′
 same-bytes b w b′ w′ m n e = ext-getD 0 b b′ (m ∙ sym n) (λ j h. go j (omega arith))
   where
-    go : (j : ℕ) → j < 250 → getD b j 0 ≡ getD b′ j 0
+    go : (j : ℕ) → j < 300 → getD b j 0 ≡ getD b′ j 0
     go j h =
-        let t : ℕ = j / 10 in
-        let c : ℕ = j % 10 in
-        let q : t * 10 + c ≡ j = div-add-mod' j 10 in
-        let r : c < 10 = mod-lt j (omega arith) in
+        let t : ℕ = j / 12 in
+        let c : ℕ = j % 12 in
+        let q : t * 12 + c ≡ j = div-add-mod' j 12 in
+        let r : c < 12 = mod-lt j (omega arith) in
         rw q at (byte-at b w t c r ∙ ap (λ (x : Task). getD (bytesOf x) c 0) (same-record b w b′ w′ e t (omega arith)) ∙ sym (byte-at b′ w′ t c r))
 
 pub same-words : (b w b′ w′ : List ℕ) → length w ≡ 75 → length w′ ≡ 75 → tasksOf b w ≡ tasksOf b′ w′ → w ≡ w′

@@ -1,15 +1,15 @@
-// The records of all tasks in two tables of plain numbers, ten bytes for each and three words, read and changed where they lie.
+// The records of all tasks in two tables of plain numbers, twelve bytes for each and three words, read and changed where they lie.
 // A table of records can't be lent, these can. Each function is a definition of specs/Stored; it rests on the records.
 ghost use mathlib.Core.Path.{_≡_};
 ghost use Prim.Native.Nat.{_<_};
 ghost use lib.ListN.{getD, set, length};
 ghost use Rattle.model.specs.Task.{noTask, withRemaining};
-ghost use Rattle.stored.specs.Stored.{recordAt, hasTen, hasThree, withOwn, withWaits, wordsWith, tasksOf};
+ghost use Rattle.stored.specs.Stored.{recordAt, hasTwelve, hasThree, withOwn, withWaits, wordsWith, tasksOf};
 use model::Task;
 use model::Wait;
 
-// The two tables: ten bytes for each task, task 0 first, and three words, all tasks' first words first.
-pub type Bytes = [u8; 250];
+// The two tables: twelve bytes for each task, task 0 first, and three words, all tasks' first words first.
+pub type Bytes = [u8; 300];
 
 pub type Words = [u32; 75];
 
@@ -28,11 +28,12 @@ fn record_in(bytes: &Bytes, words: &Words, t: usize) -> Task
     requires { ⌜ t < 25 ⌝ }
     ensures { λ r. ⌜ r ≡ recordAt (now (bytes .entry)) (now (words .entry)) t ⌝ }
 {
-    let i = t * 10;
+    let i = t * 12;
     let wait = Wait {
-        kind: bytes[i + 7],
-        object: bytes[i + 8],
-        mode: bytes[i + 9],
+        kind: bytes[i + 8],
+        object: bytes[i + 9],
+        mode: bytes[i + 10],
+        spare: bytes[i + 11],
         remaining: words[t],
         pattern: words[t + 25],
     };
@@ -44,6 +45,7 @@ fn record_in(bytes: &Bytes, words: &Words, t: usize) -> Task
         wakeups: bytes[i + 4],
         activations: bytes[i + 5],
         code: bytes[i + 6],
+        spare: bytes[i + 7],
         wait,
         handed: words[t + 50],
     }
@@ -59,14 +61,14 @@ pub fn put_record(bytes: &mut Bytes, words: &mut Words, t: usize, x: Task)
     // as slices, which tell the prover how long they are
     let b: &mut [u8] = bytes;
     let w: &mut [u32] = words;
-    put_own(b, t * 10, x);
-    put_wait(b, t * 10, x);
+    put_own(b, t * 12, x);
+    put_wait(b, t * 12, x);
     put_words(w, t, x);
 }
 
 // The six bytes that are no wait's,
 fn put_own(b: &mut [u8], i: usize, x: Task)
-    requires { ⌜ hasTen i (length (now b)) ⌝ }
+    requires { ⌜ hasTwelve i (length (now b)) ⌝ }
     ensures { λ r. ⌜ now (b .exit) ≡ withOwn (now (b .entry)) i x ⌝ }
 {
     b[i] = x.base;
@@ -79,13 +81,15 @@ fn put_own(b: &mut [u8], i: usize, x: Task)
 
 // the wait code and what is waited for,
 fn put_wait(b: &mut [u8], i: usize, x: Task)
-    requires { ⌜ hasTen i (length (now b)) ⌝ }
+    requires { ⌜ hasTwelve i (length (now b)) ⌝ }
     ensures { λ r. ⌜ now (b .exit) ≡ withWaits (now (b .entry)) i x ⌝ }
 {
     b[i + 6] = x.code;
-    b[i + 7] = x.wait.kind;
-    b[i + 8] = x.wait.object;
-    b[i + 9] = x.wait.mode;
+    b[i + 7] = x.spare;
+    b[i + 8] = x.wait.kind;
+    b[i + 9] = x.wait.object;
+    b[i + 10] = x.wait.mode;
+    b[i + 11] = x.wait.spare;
 }
 
 // and the words.

@@ -2,3 +2,4 @@ pub mod Numbers
 pub mod Records
 pub mod Listed
 pub mod Same
+pub mod Checked

@@ -10,7 +10,7 @@ use Rattle.model.specs.declared.Wait.{Wait}
 use Rattle.model.specs.declared.Task.{Task}
 use Rattle.model.specs.Task.{noWait, noTask, nothing, aSleep, aSemaphore, aFlag, isRunnable, levelOf}
 use Rattle.model.specs.Plan.{isSemaphore, isFlag}
-use Rattle.model.specs.Test.{isNoWait, isBlank, isWaitCode, isResting, isWaitSound, isAskSound, isTaskSound}
+use Rattle.model.specs.Test.{isNoWait, isBlank, isWaitCode, isResting, isWaitSound, isAskSound, isSpareSound, isTaskSound}
 use Rattle.model.specs.Sound.{SoundTask}
 use Rattle.laws.proofs.Number.{same?}
 use Rattle.laws.proofs.Record.{sound-none}
@@ -18,34 +18,34 @@ use Rattle.laws.proofs.Waits.{SoundAsk, WaitOf, Resting, wait-of, ask-of, sound
 use Rattle.laws.proofs.Says.{Says, says-as, says-same, says-eq, says-le, says-not, says-and, says-implies, says-cond, says-within}
 
 -- ---- all zeros
-blank : (base priority active suspended wakeups activations code : ℕ) (wait : Wait) (handed : ℕ)
-    → base ≡ 0 → priority ≡ 0 → active ≡ 0 → suspended ≡ 0 → wakeups ≡ 0 → activations ≡ 0 → code ≡ 0 → wait ≡ noWait → handed ≡ 0
-    → _≡_ {A = Task} (record { base = base; priority = priority; active = active; suspended = suspended; wakeups = wakeups; activations = activations; code = code; wait = wait; handed = handed }) noTask
-blank b p a s u v c w h eb ep ea es eu ev ec ew eh = cc
+blank : (base priority active suspended wakeups activations code spare : ℕ) (wait : Wait) (handed : ℕ)
+    → base ≡ 0 → priority ≡ 0 → active ≡ 0 → suspended ≡ 0 → wakeups ≡ 0 → activations ≡ 0 → code ≡ 0 → spare ≡ 0 → wait ≡ noWait → handed ≡ 0
+    → _≡_ {A = Task} (record { base = base; priority = priority; active = active; suspended = suspended; wakeups = wakeups; activations = activations; code = code; spare = spare; wait = wait; handed = handed }) noTask
+blank b p a s u v c n w h eb ep ea es eu ev ec en ew eh = cc
 
-unwaiting : (kind object mode remaining pattern : ℕ) → kind ≡ 0 → object ≡ 0 → mode ≡ 0 → remaining ≡ 0 → pattern ≡ 0
-    → _≡_ {A = Wait} (record { kind = kind; object = object; mode = mode; remaining = remaining; pattern = pattern }) noWait
-unwaiting k o m r p ek eo em er ep = cc
+unwaiting : (kind object mode spare remaining pattern : ℕ) → kind ≡ 0 → object ≡ 0 → mode ≡ 0 → spare ≡ 0 → remaining ≡ 0 → pattern ≡ 0
+    → _≡_ {A = Wait} (record { kind = kind; object = object; mode = mode; spare = spare; remaining = remaining; pattern = pattern }) noWait
+unwaiting k o m n r p ek eo em en er ep = cc
 
 says-no-wait : (w : Wait) → Says (isNoWait w) (w ≡ noWait)
 says-no-wait w = record {
-  yields = λ t. let p = zeros .yields t in unwaiting (w .kind) (w .object) (w .mode) (w .remaining) (w .pattern) (p .0) (p .1 .0) (p .1 .1 .0) (p .1 .1 .1 .0) (p .1 .1 .1 .1);
+  yields = λ t. let p = zeros .yields t in unwaiting (w .kind) (w .object) (w .mode) (w .spare) (w .remaining) (w .pattern) (p .0) (p .1 .0) (p .1 .1 .0) (p .1 .1 .1 .0) (p .1 .1 .1 .1 .0) (p .1 .1 .1 .1 .1);
   tests = λ e. subst (λ (v : Wait). So (isNoWait v)) (sym e) tt;
 }
   where
-    zeros : Says (isNoWait w) ((w .kind ≡ 0) × ((w .object ≡ 0) × ((w .mode ≡ 0) × ((w .remaining ≡ 0) × (w .pattern ≡ 0)))))
-    zeros = says-and says-eq (says-and says-eq (says-and says-eq (says-and says-eq says-eq)))
+    zeros : Says (isNoWait w) ((w .kind ≡ 0) × ((w .object ≡ 0) × ((w .mode ≡ 0) × ((w .spare ≡ 0) × ((w .remaining ≡ 0) × (w .pattern ≡ 0))))))
+    zeros = says-and says-eq (says-and says-eq (says-and says-eq (says-and says-eq (says-and says-eq says-eq))))
 
 pub says-blank : (x : Task) → Says (isBlank x) (x ≡ noTask)
 says-blank x = record {
   yields = λ t. let p = zeros .yields t in let q = p .1 .1 .1 .1 in
-      blank (x .base) (x .priority) (x .active) (x .suspended) (x .wakeups) (x .activations) (x .code) (x .wait) (x .handed)
-      (p .0) (p .1 .0) (p .1 .1 .0) (p .1 .1 .1 .0) (q .0) (q .1 .0) (q .1 .1 .0) (q .1 .1 .1 .0) (q .1 .1 .1 .1);
+      blank (x .base) (x .priority) (x .active) (x .suspended) (x .wakeups) (x .activations) (x .code) (x .spare) (x .wait) (x .handed)
+      (p .0) (p .1 .0) (p .1 .1 .0) (p .1 .1 .1 .0) (q .0) (q .1 .0) (q .1 .1 .0) (q .1 .1 .1 .0) (q .1 .1 .1 .1 .0) (q .1 .1 .1 .1 .1);
   tests = λ e. subst (λ (y : Task). So (isBlank y)) (sym e) tt;
 }
   where
-    zeros : Says (isBlank x) ((x .base ≡ 0) × ((x .priority ≡ 0) × ((x .active ≡ 0) × ((x .suspended ≡ 0) × ((x .wakeups ≡ 0) × ((x .activations ≡ 0) × ((x .code ≡ 0) × ((x .wait ≡ noWait) × (x .handed ≡ 0)))))))))
-    zeros = says-and says-eq (says-and says-eq (says-and says-eq (says-and says-eq (says-and says-eq (says-and says-eq (says-and says-eq (says-and (says-no-wait (x .wait)) says-eq)))))))
+    zeros : Says (isBlank x) ((x .base ≡ 0) × ((x .priority ≡ 0) × ((x .active ≡ 0) × ((x .suspended ≡ 0) × ((x .wakeups ≡ 0) × ((x .activations ≡ 0) × ((x .code ≡ 0) × ((x .spare ≡ 0) × ((x .wait ≡ noWait) × (x .handed ≡ 0))))))))))
+    zeros = says-and says-eq (says-and says-eq (says-and says-eq (says-and says-eq (says-and says-eq (says-and says-eq (says-and says-eq (says-and says-eq (says-and (says-no-wait (x .wait)) says-eq))))))))
 
 -- ---- one that is dormant, and what one waits for
 says-resting : (x : Task) → Says (isResting x) (Resting x)
@@ -120,17 +120,17 @@ says-ask w = says-as
 abbrev Made : Task → Type 0
 Made x =
     ((1 ≤ x .base) × (x .base ≤ 30)) × (((1 ≤ x .priority) × (x .priority ≤ 30)) × ((x .active ≤ 1) × ((x .suspended ≤ 1) × ((x .wakeups ≤ 1)
-    × ((x .activations ≤ 1) × (So (isWaitCode (x .code)) × ((x .active ≡ 0 → Resting x) × (WaitOf x × SoundAsk (x .wait)))))))))
+    × ((x .activations ≤ 1) × (So (isWaitCode (x .code)) × ((x .active ≡ 0 → Resting x) × (WaitOf x × (SoundAsk (x .wait) × ((x .spare ≡ 0) × (x .wait .spare ≡ 0)))))))))))
 
 made-sound : (x : Task) → Made x → SoundTask x
 made-sound x p =
     let q = p .1 .1 .1 .1 in
-    sound-of x (p .0) (p .1 .0) (p .1 .1 .0) (p .1 .1 .1 .0) (q .0) (q .1 .0) (q .1 .1 .0) (q .1 .1 .1 .0) (q .1 .1 .1 .1 .0) (q .1 .1 .1 .1 .1)
+    sound-of x (p .0) (p .1 .0) (p .1 .1 .0) (p .1 .1 .1 .0) (q .0) (q .1 .0) (q .1 .1 .0) (q .1 .1 .1 .1 .1 .1) (q .1 .1 .1 .0) (q .1 .1 .1 .1 .0) (q .1 .1 .1 .1 .1 .0)
 
 sound-made : (x : Task) → SoundTask x → (x .base ≡ 0 → ⊥) → Made x
 sound-made x h n =
     let some : 1 ≤ x .base = omega arith in
-    ((some, h .base), (h .priority some, (h .active, (h .suspended, (h .wakeups, (h .activations, (h .code, (h .dormant, (wait-of x h, ask-of x h)))))))))
+    ((some, h .base), (h .priority some, (h .active, (h .suspended, (h .wakeups, (h .activations, (h .code, (h .dormant, (wait-of x h, (ask-of x h, h .spare))))))))))
 
 pub says-task : (x : Task) → Says (isTaskSound x) (SoundTask x)
 unfolding isTaskSound
@@ -142,7 +142,7 @@ says-task x = says-as
     (λ h. (sound-made x h, λ k. ⊎-elim (λ (e : x .base ≡ 0). h .blank e) (λ (n : x .base ≡ 0 → ⊥). absurd (k n)) (same? (x .base) 0)))
     (says-cond (says-not says-eq)
     (says-and says-within (says-and says-within (says-and says-le (says-and says-le (says-and says-le
-    (says-and says-le (says-and (says-same (isWaitCode (x .code))) (says-and (says-implies says-eq (says-resting x)) (says-and (says-wait x) (says-ask (x .wait)))))))))))
+    (says-and says-le (says-and (says-same (isWaitCode (x .code))) (says-and (says-implies says-eq (says-resting x)) (says-and (says-wait x) (says-and (says-ask (x .wait)) (says-and says-eq says-eq)))))))))))
     (says-blank x))
 
 -- ---- the queues that list it

@@ -17,6 +17,7 @@ use Rattle.model.specs.Sound.{Lists, SoundTask, Sound}
 use Rattle.laws.proofs.Number.{same?}
 use Rattle.laws.proofs.Record.{sound-none, row-none, row-most, flag-row, flag-none, row-flag, flag-waits}
 use Rattle.laws.proofs.Says.{Says, says-as, says-same, says-eq, says-and, says-below, everywhere}
+use Rattle.tested.specs.Statements.{SoundExactly}
 use Rattle.tested.proofs.Numbers.{Rate, Counted, Flagged, Unmet, says-rate, says-count, says-flag, says-unmet}
 use Rattle.tested.proofs.Records.{says-blank, says-task, level-none, level-most}
 use Rattle.tested.proofs.Listed.{Queues, Listed, says-queues, lists-of-test, test-of-lists, first-listed, listed-first, second-alone, alone-second}
@@ -274,5 +275,5 @@ is-true : (b : Bool) → So b → b ≡ true
 is-true true t = refl
 is-true false t = absurd t
 
-pub sound-exactly : (s : State) → (isSound s ≡ true) ↔ Sound s
+pub sound-exactly : SoundExactly
 sound-exactly s = (λ e. sound-of-test s (rw e tt), λ h. is-true (isSound s) (test-of-sound s h))

@@ -31,7 +31,7 @@ use Rattle.laws.proofs.Number.{same?}
 use Rattle.soundness.proofs.Fresh.{reads}
 use Rattle.ways.proofs.Tests.{none-of}
 use Rattle.soundness.proofs.Soundness.{fresh-is-sound, sound-stays-sound}
-use Rattle.tested.proofs.Same.{sound-exactly}
+use Rattle.tested.proofs.Checked.{call-is-step}
 use Rattle.ways.specs.Kind.{Kind}
 use Rattle.ways.specs.Entry as Entries
 use Rattle.ways.specs.Entry.{Entry}
@@ -176,10 +176,6 @@ pub none-without : NoneWithout step
 none-without calls m free = from-fresh m calls .none (none-of (maximum (reachedBy step fresh calls) m) .yields free)
 
 -- ---- the checked call, which answers as `step` does as long as the state is sound
-call-is-step : (s : State) (c : Context) (a : Call) → Sound s → call s c a ≡ step s c a
-unfolding call
-call-is-step s c a k = rw (sound-exactly s .1 k)
-
 reached-called : (calls : List (Context × Call)) (s : State) → Sound s → reachedBy call s calls ≡ reachedBy step s calls
 unfolding reachedBy
 reached-called [] s k = refl

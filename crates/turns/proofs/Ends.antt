@@ -14,6 +14,7 @@ use Rattle.model.specs.declared.State.{State}
 use Rattle.model.specs.declared.News.the-variants.{Deleted}
 use Rattle.model.specs.Task.{nothing, aSleep, isTimed, ranOut, timeout, dlt, rowOf, dormant, activated, ended, withRemaining, aged, told}
 use Rattle.model.specs.State.{task, moved}
+use Rattle.model.specs.Code.{waitNumber}
 use Rattle.model.specs.Effect.{stopped, toldAll, lapsed}
 use Rattle.model.specs.Test.{occ, padded}
 use Rattle.laws.proofs.Number.{same?}
@@ -67,7 +68,7 @@ stopped-at s t long = go (eqb (task s t .activations) 0)
     go false = rw (task-moved (moved t x s) t (activated x) (rw (tasks-moved s t x) long))
 
 -- ---- a deletion
-pub ended-at : (q : List ℕ) (s : State) (t : ℕ) → 1 ≤ t → t < length (s .tasks) → So (padded q) → Ended s t dlt ⊎ (1 ≤ occ t q) → Ended (toldAll Deleted q s) t dlt
+pub ended-at : (q : List ℕ) (s : State) (t : ℕ) → 1 ≤ t → t < length (s .tasks) → So (padded q) → Ended s t (waitNumber dlt) ⊎ (1 ≤ occ t q) → Ended (toldAll Deleted q s) t (waitNumber dlt)
 unfolding toldAll told
 ended-at [] s t some long ends (inl done) = done
 ended-at [] s t some long ends (inr there) = absurd (omega (arith, occ-none t))
@@ -79,11 +80,11 @@ ended-at (u ∷ q) s t some long ends w = ⊎-elim
     s₁ : State
     s₁ = moved u (ended (task s u) dlt 0) s
 
-    here : u ≡ 0 → Ended s t dlt ⊎ (1 ≤ occ t (u ∷ q)) → Ended s t dlt
+    here : u ≡ 0 → Ended s t (waitNumber dlt) ⊎ (1 ≤ occ t (u ∷ q)) → Ended s t (waitNumber dlt)
     here z (inl done) = done
     here z (inr there) = absurd (omega (arith, first-none (u ∷ q) ends z t some))
 
-    on : (u ≡ t) ⊎ (u ≡ t → ⊥) → Ended s t dlt ⊎ (1 ≤ occ t (u ∷ q)) → Ended s₁ t dlt ⊎ (1 ≤ occ t q)
+    on : (u ≡ t) ⊎ (u ≡ t → ⊥) → Ended s t (waitNumber dlt) ⊎ (1 ≤ occ t (u ∷ q)) → Ended s₁ t (waitNumber dlt) ⊎ (1 ≤ occ t q)
     on (inl e) w = let z : task s₁ t ≡ ended (task s t) dlt 0 = ap (λ i. task (moved i (ended (task s i) dlt 0) s) t) e ∙ task-moved s t (ended (task s t) dlt 0) long in inl (record { over = rw z; code = rw z })
     on (inr apart) (inl done) = let z = task-kept s u (ended (task s u) dlt 0) t apart in inl (record { over = rw z (done .over); code = rw z (done .code) })
     on (inr apart) (inr there) = inr (omega (arith, occ-cons t u q, one-ne u t apart))

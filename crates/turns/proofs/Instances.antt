@@ -4,12 +4,14 @@ use mathlib.Core.Path.{_≡_, refl}
 use mathlib.Core.List.{List, [], _∷_}
 use Prim.Native.Nat.{ℕ, _*_, _-_, _≤_}
 use lib.Dec.{T as So, lit≤}
+use lib.IntN.{pos}
 use Rattle.model.specs.declared.State.{State}
 use Rattle.model.specs.declared.Context.{Context}
 use Rattle.model.specs.declared.Call.{Call}
 use Rattle.model.specs.declared.Call.the-variants.{TaskCreate, TaskActivate, TaskTerminate, TaskSuspend, TaskResume, TaskChangePriority, SysTsliceTicks, SemCreate, SemIsignal, SemAcquire}
 use Rattle.model.specs.Task.{isRunnable}
 use Rattle.model.specs.State.{fresh, task, slice, charge, level}
+use Rattle.model.specs.Call.{step}
 use Rattle.model.specs.Sound.{Sound}
 use Rattle.model.proofs.Words.{opened}
 use Rattle.soundness.specs.Statements.{reached}
@@ -36,17 +38,17 @@ unfoldable pub signals : List (Context × Call)
 signals = byInterrupt (SemIsignal 1) ∷ aTick ∷ byInterrupt (SemIsignal 1) ∷ []
 
 -- 2 holds its resource by the second release
-pub second : HoldsBy 1 2 2 two signals
-unfolding opened reached two waiting signals releases
-second = waiters-are-served two signals 1 2 2 two-sound (lit≤ tt) (lit≤ tt) refl refl (lit≤ tt)
+pub second : HoldsBy step 1 2 2 two signals
+unfolding opened reached two waiting signals
+second = waiters-are-served two signals 1 2 2 two-sound (lit≤ tt) (lit≤ tt) refl refl
 
 -- and not by the first
-pub not-before : HoldsBy 1 2 1 two signals → ⊥
+pub not-before : HoldsBy step 1 2 1 two signals → ⊥
 unfolding opened reached two waiting signals seenOver
 not-before d = seen-over (lit≤ tt) d
 
 -- it is a release that ends its wait, with 0
-pub served-second : Ended (reached two signals) 2 0
+pub served-second : Ended (reached two signals) 2 (pos 0)
 unfolding opened reached two waiting signals
 served-second = record { over = refl; code = refl }
 
@@ -65,7 +67,7 @@ unfoldable pub ticks : List (Context × Call)
 ticks = aTick ∷ aTick ∷ aTick ∷ aTick ∷ []
 
 -- 3, at place 3, is first by the fourth charged tick
-pub third : FirstBy 6 3 4 three ticks
+pub third : FirstBy step 6 3 4 three ticks
 unfolding opened reached three runnable ticks charges noneIs
 third = turns-come-round three ticks 6 3 3 2 three-sound tt refl refl refl (lit≤ tt)
     (each tt (each tt (each tt (each tt none)))) (none-does (terminate 3) ticks three tt) (each refl (each refl (each refl (each refl none)))) (none-does (setSlice 6) ticks three tt) (lit≤ tt)
@@ -75,7 +77,7 @@ unfolding opened reached three runnable
 charge-none = refl
 
 -- and not by the third
-pub not-by-third : FirstBy 6 3 3 three ticks → ⊥
+pub not-by-third : FirstBy step 6 3 3 three ticks → ⊥
 unfolding opened reached three runnable ticks seenFirst
 not-by-third d = seen-first d
 
@@ -85,23 +87,23 @@ TurnsGiven P Q R = (s : State) (calls : List (Context × Call)) (l t q v : ℕ)
     → Sound s
     → So (isRunnable (task s t)) → task s t .priority ≡ l → placeIn (level s l) t ≡ q
     → slice s l ≡ v → 1 ≤ v
-    → Each (P t l) s calls
-    → Each (Q t l) s calls
-    → Each (R t l) s calls
-    → (q - 1) * v ≤ charges s calls l
-    → FirstBy l t ((q - 1) * v) s calls
+    → Each step (P t l) s calls
+    → Each step (Q t l) s calls
+    → Each step (R t l) s calls
+    → (q - 1) * v ≤ charges step s calls l
+    → FirstBy step l t ((q - 1) * v) s calls
 
 abbrev Runnable : ℕ → ℕ → State → Context × Call → Type 0
-Runnable t l = StaysRunnable t
+Runnable t l = StaysRunnable step t
 
 abbrev Alive : ℕ → ℕ → State → Context × Call → Type 0
-Alive t l = NotTerminated t
+Alive t l = NotTerminated step t
 
 abbrev Prior : ℕ → ℕ → State → Context × Call → Type 0
-Prior t l = KeepsPriority t l
+Prior t l = KeepsPriority step t l
 
 abbrev Unset : ℕ → ℕ → State → Context × Call → Type 0
-Unset t l = SliceNotSet l
+Unset t l = SliceNotSet step l
 
 -- 2, at place 2, would be first by the second charged tick; suspended and resumed, it goes last
 suspends : List (Context × Call)

@@ -15,3 +15,4 @@ pub mod Handed
 pub mod Accounted
 pub mod Refuted
 pub mod Releases
+pub mod Called

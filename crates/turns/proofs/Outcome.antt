@@ -19,7 +19,7 @@ use Rattle.model.specs.declared.Effect.the-variants.{Moves, Deletes, Ticks, Tel
 use Rattle.model.specs.Row.{place, first, left, row, firstOf, relisted}
 use Rattle.model.specs.Task.{nothing, served, timeout, dlt, released, rowOf, waiting, ended, aged}
 use Rattle.model.specs.State.{task, count, time, maximum, waiters, running, moved, counted, flagged, sliced, withTime}
-use Rattle.model.specs.Code.{isRefusal}
+use Rattle.model.specs.Code.{waitNumber, isRefusal}
 use Rattle.model.specs.Effect.{toldAll, deleted, toldFlag, charged, lapsed, ticked, carried}
 use Rattle.model.specs.Test.{one, occ}
 use Rattle.model.specs.Sound.{Sound}
@@ -50,11 +50,11 @@ on-waits = record { relists = λ s u x. refl }
 pub data Outcome (s : State) (m t : ℕ) (k : Kind) (c : Code) (x : Effect) : Type 0 where
   waits : rowOf (task (carried s x) t) ≡ m
       → place (waiters (carried s x) m) t + one (not (isRefusal c) && isReleaseOf m k) ≤ place (waiters s m) t → Outcome s m t k c x
-  holds : So (not (isRefusal c) && isReleaseOf m k) → Ended (carried s x) t served → Outcome s m t k c x
-  lapses : So (not (isRefusal c)) → k ≡ Kinds.tick → Ended (carried s x) t timeout → Outcome s m t k c x
-  forced : So (not (isRefusal c)) → k ≡ forcedRelease t → Ended (carried s x) t released → Outcome s m t k c x
+  holds : So (not (isRefusal c) && isReleaseOf m k) → Ended (carried s x) t (waitNumber served) → Outcome s m t k c x
+  lapses : So (not (isRefusal c)) → k ≡ Kinds.tick → Ended (carried s x) t (waitNumber timeout) → Outcome s m t k c x
+  forced : So (not (isRefusal c)) → k ≡ forcedRelease t → Ended (carried s x) t (waitNumber released) → Outcome s m t k c x
   stops : So (not (isRefusal c)) → k ≡ Kinds.terminate t → task (carried s x) t .wait .kind ≡ nothing → Outcome s m t k c x
-  deletes : So (not (isRefusal c)) → k ≡ deletion m → Ended (carried s x) t dlt → Outcome s m t k c x
+  deletes : So (not (isRefusal c)) → k ≡ deletion m → Ended (carried s x) t (waitNumber dlt) → Outcome s m t k c x
 
 module _ (s : State) (k : Sound s) (m t : ℕ) (h : 1 ≤ m) (top : m ≤ 12) (e : rowOf (task s t) ≡ m) where
   low : 1 ≤ t
@@ -82,7 +82,7 @@ module _ (s : State) (k : Sound s) (m t : ℕ) (h : 1 ≤ m) (top : m ≤ 12) (e
   listed = listed-in (s .waits) 21 (λ u. rowOf (task s u)) (k .waits) m t (omega arith) low h e
 
   -- its own wait ends
-  over : (u v : ℕ) → u ≡ t → Ended (moved u (ended (task s u) v 0) s) t v
+  over : (u v : ℕ) → u ≡ t → Ended (moved u (ended (task s u) v 0) s) t (waitNumber v)
   over u v z =
       let y : task (moved u (ended (task s u) v 0) s) t ≡ ended (task s t) v 0 = ap (λ i. task (moved i (ended (task s i) v 0) s) t) z ∙ task-moved s t (ended (task s t) v 0) long in
       record { over = rw y; code = rw y }
@@ -154,7 +154,7 @@ module _ (s : State) (k : Sound s) (m t : ℕ) (h : 1 ≤ m) (top : m ≤ 12) (e
       go (inl w) = on (still-then on-waits m t low (untouched z (kept .0) (kept .1)) (still-lapsed on-waits m t low 24 1 z (λ _. rw at w) (rw at e))) refl
       go (inr w) =
           let y : task (lapsed 24 1 z) t ≡ aged (task s t) = lapsed-at 24 1 z t (rw (kept .0) long) low (omega (arith, waiter-in s k t (omega arith))) ∙ ap aged at in
-          lapses tt refl (record { over = rw y (w .0); code = rw y (w .1) })
+          lapses tt refl (record { over = rw y (w .0); code = rw y (ap waitNumber (w .1)) })
 
   -- a record changes, and with it no wait on a semaphore
   changing : (u : ℕ) (x : Task) → (1 ≤ rowOf (task s u) → rowOf x ≡ rowOf (task s u)) → Still rowOf (λ z. z .waits) m t s (moved u x s)

@@ -37,16 +37,16 @@ module _ (l t : ℕ) (h : 1 ≤ l) where
       let below : charge s l < slice s l = ⊎-elim (λ c. c) (λ c. absurd (omega arith)) (k .rates .charges l) in
       omega (arith, mul-le-mul-right {m = 1} {n = place (level s l) t} (slice s l) (omega arith))
 
-  per-call : (s : State) → Sound s → levelOf (task s t) ≡ l → (a : Context × Call) → levelOf (task (next s a) t) ≡ l → NotTerminated t s a → SliceNotSet l s a
-      → 1 ≤ slice s l → 1 ≤ place (level s l) t → Nearer l t s (next s a) (one (isCharged s a l))
+  per-call : (s : State) → Sound s → levelOf (task s t) ≡ l → (a : Context × Call) → levelOf (task (next step s a) t) ≡ l → NotTerminated step t s a → SliceNotSet step l s a
+      → 1 ≤ slice s l → 1 ≤ place (level s l) t → Nearer l t s (next step s a) (one (isCharged step s a l))
   unfolding step
   per-call s k e a after alive unset some far = nearer s k l t h e (way s (a .0) (a .1))
       (λ ok. record { alive = λ z. alive (record { accepted = ok; is = z }); unset = λ z. unset (record { accepted = ok; is = z }) }) after some far
 
   -- place * slice is at most the ticks left and the charge
   first-by : (calls : List (Context × Call)) (s : State) (n : ℕ) → Sound s → levelOf (task s t) ≡ l → 1 ≤ slice s l
-      → Each (StaysRunnable t) s calls → Each (NotTerminated t) s calls → Each (KeepsPriority t l) s calls → Each (SliceNotSet l) s calls
-      → place (level s l) t * slice s l ≤ n + charge s l → n ≤ charges s calls l → FirstBy l t n s calls
+      → Each step (StaysRunnable step t) s calls → Each step (NotTerminated step t) s calls → Each step (KeepsPriority step t l) s calls → Each step (SliceNotSet step l) s calls
+      → place (level s l) t * slice s l ≤ n + charge s l → n ≤ charges step s calls l → FirstBy step l t n s calls
   unfolding charges
   first-by [] s n k e some none none none none turn enough = ⊎-elim
       (λ (z : place (level s l) t ≡ 0). Say.first (is-first s k e z))
@@ -55,24 +55,24 @@ module _ (l t : ℕ) (h : 1 ≤ l) where
   first-by (a ∷ rest) s n k e some (each runs allRun) (each alive allAlive) (each kept allKept) (each unset allUnset) turn enough = ⊎-elim
       (λ (z : place (level s l) t ≡ 0). Say.first (is-first s k e z))
       (λ (far : place (level s l) t ≡ 0 → ⊥).
-      let after = level-runnable (task (next s a) t) l runs kept in
-      goes (isCharged s a l) refl n (per-call s k e a after alive unset some (omega arith)) far turn enough
-      (λ j v. first-by rest (next s a) j (sound-stays-sound s (a .0) (a .1) k) after v allRun allAlive allKept allUnset))
+      let after = level-runnable (task (next step s a) t) l runs kept in
+      goes (isCharged step s a l) refl n (per-call s k e a after alive unset some (omega arith)) far turn enough
+      (λ j v. first-by rest (next step s a) j (sound-stays-sound s (a .0) (a .1) k) after v allRun allAlive allKept allUnset))
       (same? (place (level s l) t) 0)
     where
-      goes : (b : Bool) → isCharged s a l ≡ b → (n : ℕ) → Nearer l t s (next s a) (one b) → (place (level s l) t ≡ 0 → ⊥)
-          → place (level s l) t * slice s l ≤ n + charge s l → n ≤ one b + charges (next s a) rest l
-          → ((j : ℕ) → 1 ≤ slice (next s a) l → place (level (next s a) l) t * slice (next s a) l ≤ j + charge (next s a) l → j ≤ charges (next s a) rest l → FirstBy l t j (next s a) rest)
-          → FirstBy l t n s (a ∷ rest)
+      goes : (b : Bool) → isCharged step s a l ≡ b → (n : ℕ) → Nearer l t s (next step s a) (one b) → (place (level s l) t ≡ 0 → ⊥)
+          → place (level s l) t * slice s l ≤ n + charge s l → n ≤ one b + charges step (next step s a) rest l
+          → ((j : ℕ) → 1 ≤ slice (next step s a) l → place (level (next step s a) l) t * slice (next step s a) l ≤ j + charge (next step s a) l → j ≤ charges step (next step s a) rest l → FirstBy step l t j (next step s a) rest)
+          → FirstBy step l t n s (a ∷ rest)
       goes b y zero d far turn enough more = absurd (behind s k far some (omega arith))
       goes true y (suc n) d far turn enough more =
-          let r : So (isCharged s a l) = rw y tt in
+          let r : So (isCharged step s a l) = rw y tt in
           Say.charged r (more n (rw (d .steady) some) (rw (d .steady) (omega (arith, d .falls))) (omega arith))
       goes false y (suc n) d far turn enough more =
-          let r : So (not (isCharged s a l)) = rw y tt in
+          let r : So (not (isCharged step s a l)) = rw y tt in
           Say.later r (more (suc n) (rw (d .steady) some) (rw (d .steady) (omega (arith, d .falls))) (omega arith))
 
-pub turns-come-round : TurnsComeRound
+pub turns-come-round : TurnsComeRound step
 turns-come-round s calls l t q v k runs e y z some stays alive keeps unset enough =
     let w : place (level s l) t ≡ q - 1 = omega arith in
     let low : 1 ≤ l = omega (arith, level-some (task s t) (k .tasks t) runs) in

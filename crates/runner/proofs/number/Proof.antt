@@ -3,9 +3,9 @@ use mathlib.Core.Path.{_≡_, ap, sym, _∙_, subst}
 use native.Mathlib.Omega.{arith}
 use mir.Syntax.{w64}
 use mir.Facts.{toZ-pos}
-use Prim.Native.Nat.{_<_, _≤_, _^_}
+use Prim.Native.Nat.{_+_, _<_, _≤_, _^_}
 use Rattle.runner.specs.Outcome.{signedOf, Small}
-use Rattle.runner.proofs.Signed.{neg-fits, neg-back}
+use Rattle.laws.proofs.Negated.{negated-fits, negated-back}
 use borrow.Author.Needs.{needs}
 use Rattle.runner.proofs.number.Statement.{statement}
 use Rattle.runner.proofs.number.Tie as tie
@@ -35,7 +35,7 @@ cast-result-2 : tie.Need-cast-result-2
 cast-result-2 c = omega (arith, small3 (c .before))
 
 sub-result : tie.Need-sub-result
-sub-result c = neg-fits _ (small3 (c .before))
+sub-result c = negated-fits w64 (c .before .r2 .given .0 .0 + 10) (omega (arith, small3 (c .before)))
 
 enum-told-2 : tie.Need-enum-told-2
 enum-told-2 c = search needs
@@ -47,7 +47,7 @@ returns-2 : tie.Need-returns-2
 returns-2 c = ap signedOf (sym (c .enum-told .given .1))
 
 returns-3 : tie.Need-returns-3
-returns-3 c = neg-back _ (small3 (c .before)) ∙ ap signedOf (sym (c .before .r2 .given .1))
+returns-3 c = negated-back w64 (c .before .r2 .given .0 .0 + 10) (omega (arith, small3 (c .before))) ∙ ap signedOf (sym (c .before .r2 .given .1))
 
 returns-4 : tie.Need-returns-4
 returns-4 c = ap signedOf (sym (c .enum-told2 .given .1))
