@@ -1,6 +1,6 @@
 #!/bin/sh
 # Holds pages to what they speak of: the map of docs/ARCHITECTURE.md to crates.txt, the names of docs/TRACE.md to the files that it says
-# define them, the newest entry of CHANGELOG.md to the header's version, and the files that pages name to those there are.
+# define them, CHANGELOG.md to the header's version, the limits that README.md says to what they are, and the files that pages name.
 # Writes what is wrong; exit status 0 if nothing is.
 set -u
 LC_ALL=C
@@ -106,6 +106,37 @@ sort -t. -k1,1nr -k2,2nr -k3,3nr "$work/versions" | cmp -s - "$work/versions" ||
 for note in docs/landings/*.md; do
     grep -qF "\`$note\`" CHANGELOG.md || wrong "CHANGELOG.md does not name $note"
 done
+
+# ---- limits: counted from the shortest call and from a tick, or as the headers have them, and said by the pages
+thousands() {
+    echo "$1" | sed 's/\(.*[0-9]\)\([0-9]\{3\}\)$/\1,\2/'
+}
+constant() {
+    thousands "$(sed -n "s/.*$1 *[=]* \([0-9]*\).*/\1/p" "$2")"
+}
+# most HEADER LINE: how many such lines a file has room for, the last without its line end
+most() {
+    thousands $(((65536 - ${#1}) / (${#2} + 1)))
+}
+# says PAGE WORDS: over the ends of lines too
+says() {
+    tr '\n' ' ' <"$1" | tr -s ' ' | grep -qF -e "$2" || wrong "$1 does not say: $2"
+}
+for page in README.md docs/SERVICES.md; do
+    says "$page" "at most $(constant GRITGARLAND_FILE_MOST include/gritgarland.h) bytes"
+    says "$page" "$(most ctx,service,a,b,c T,tn_task_exit,,,) calls"
+    says "$page" "$(most ctx,service,a,b,c,d T,tn_task_exit,,,,) with six fields a line"
+    says "$page" "at most $(most ctx,service,a,b,c I,tn_tick_int_processing,,,) ticks"
+    says "$page" "lines end in CRLF"
+    says "$page" "where nothing waits"
+done
+says README.md "at most $(constant GRITGARLAND_ANSWER_MOST include/gritgarland.h) bytes"
+says README.md "A state has $(constant 'sizeof(gritgarland_state)' include/gritgarland_state.h) bytes"
+# in KB, as docs/PERFORMANCE.md has it in bytes
+stack() {
+    sed -n "s/^| \`$1\` | \([0-9]*\),\([0-9]*\) |.*/\1\2/p" docs/PERFORMANCE.md | awk '{ print int(($1 + 500) / 1000) }'
+}
+says README.md "A call takes some $(stack gritgarland_call_in_place) KB of stack, a list $(stack run_list) KB"
 
 # ---- files that the pages name; what a build makes is under target/
 for page in README.md CHANGELOG.md docs/ARCHITECTURE.md docs/SERVICES.md docs/TRACE.md docs/PROMISES.md docs/BOARD.md; do
