@@ -139,7 +139,7 @@ stack() {
 says README.md "A call takes some $(stack gritgarland_call_in_place) KB of stack, a list $(stack run_list) KB"
 
 # ---- files that the pages name; what a build makes is under target/
-for page in README.md CHANGELOG.md docs/ARCHITECTURE.md docs/SERVICES.md docs/TRACE.md docs/PROMISES.md docs/BOARD.md; do
+for page in README.md CHANGELOG.md docs/ARCHITECTURE.md docs/SERVICES.md docs/TRACE.md docs/PROMISES.md docs/BOARD.md docs/PERFORMANCE.md; do
     awk -F'`' '{ for (i = 2; i <= NF; i += 2) if ($i ~ /^(crates|docs|examples|include|tests|tools)\/[A-Za-z0-9_.\/-]*$/ || $i ~ /^[A-Z]+\.md$/) print $i }' "$page" | sort -u |
         while read -r file; do
             [ -e "$file" ] || echo "$page names $file, which is not there"
