@@ -1,4 +1,4 @@
-# What tests/examples.sh and tests/play.sh share: a folder $work, runlist built, and how a list is played. The caller sets $test, its
+# What tests/examples.sh, tests/play.sh and tests/build.sh share: a folder $work, runlist built, and how a list is played. The caller sets $test, its
 # name, sources this file from the repository's top, and ends with `finish`.
 set -u
 LC_ALL=C
@@ -7,11 +7,19 @@ runlist=target/bin/runlist
 tools/build-runlist >/dev/null 2>&1 || { echo "$test: runlist does not build; tools/build-runlist tells why"; exit 1; }
 work=$(mktemp -d) || exit 1
 trap 'rm -rf "$work"' EXIT
-wrong=0
 
+# a file and no variable, so that it also counts in a pipe
 differs() {
     echo "$test: $*" >&2
-    wrong=1
+    : >"$work/wrong"
+}
+
+# said WHAT: all that play said is what standard input has
+said() {
+    cat >"$work/wished"
+    cmp -s "$work/words" "$work/wished" && return
+    differs "$1: < wanted, > said"
+    diff "$work/wished" "$work/words" >&2
 }
 
 # plays FILE STATUS: ./play writes what runlist writes, and ends with that status; $work/words has its words
@@ -24,7 +32,7 @@ plays() {
 }
 
 finish() {
-    [ "$wrong" -eq 0 ] || exit 1
+    [ ! -e "$work/wrong" ] || exit 1
     echo "$test: all as they must be"
     exit 0
 }

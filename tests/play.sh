@@ -6,11 +6,6 @@ test=play
 . tests/lists.sh
 header=ctx,service,a,b,c
 
-# said WHAT: all that play said is what standard input has
-said() {
-    cmp -s - "$work/words" || { differs "$1: ./play says"; cat "$work/words" >&2; }
-}
-
 # answers NUMBER WHAT: runlist refused the file played last with this number
 answers() {
     printf '%s\r\n' "$1" | cmp -s - "$work/answer" || differs "$2: runlist does not answer $1"
