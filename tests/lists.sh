@@ -10,7 +10,7 @@ trap 'rm -rf "$work"' EXIT
 
 # a file and no variable, so that it also counts in a pipe
 differs() {
-    echo "$test: $*" >&2
+    printf '%s\n' "$test: $*" >&2
     : >"$work/wrong"
 }
 

@@ -109,6 +109,9 @@ call 'T,tn_task_exit,0,,' "field 3 (a): [0] must be blank: tn_task_exit takes no
 call 'T,tn_sem_signal,1,2,' "field 4 (b): [2] must be blank: tn_sem_signal takes 1 number" '[T,tn_sem_signal,1,2,]'
 six 'T,tn_sem_create,1,0,1, ' "field 6 (d): [ ] must be blank, and has a space: tn_sem_create takes 3 numbers" '[T,tn_sem_create,1,0,1, ]'
 
+# ---- what can't be printed is shown
+call 'x\001\010\013\014\016\037\177\200\240\377~}! \\' "1 field, this header needs 5" '[x\x01\x08\x0B\x0C\x0E\x1F\x7F\x80\xA0\xFF~}! \\]'
+
 # ---- long quotes are cut, and not within the sign for a byte
 digits=1234567890
 long=$digits$digits$digits$digits$digits
@@ -147,7 +150,7 @@ line 5: this clear takes out 31 of the flag's 32 bits and keeps 1; $keeps: if 42
 line 6: this clear takes out all 32 bits of the flag; $keeps: if 4294967295 was written for it, leave this line out
 line 10: this clear takes out 31 of the flag's 32 bits and keeps 1; $keeps: if 4294934527 was written for it, write 32768 here
 END
-printf '%s\r\n' $header,d T,tn_event_clear,1,4294967293,, T,tn_event_clear,1,4294967297,, >"$work/file"
+printf '%s\r\n' $header,d T,tn_event_clear,1,4294967293,, T,tn_event_clear,1,8589934591,, >"$work/file"
 plays "$work/file" 1
 [ "$(sed -n 's/^\(line [0-9]*\): this clear.*write 2 here$/\1/p' "$work/words")" = "line 2" ] || differs "./play does not warn of a clear in a refused file"
 
@@ -191,10 +194,16 @@ grep -Fqx "the file is longer than 65,536 bytes; no call of it is answered" "$wo
 
 # ---- how play is called
 (cd examples && ../play worked.csv) 2>/dev/null | cmp -s - examples/worked.answer || differs "./play does not work from another folder"
-./play - <examples/worked.csv 2>"$work/words" | cmp -s - examples/worked.answer || differs "./play - does not read standard input"
-grep -q 'line 9 (call 8)' "$work/words" || differs "./play - has no words"
-cat examples/worked.csv | ./play /dev/stdin 2>"$work/words" | cmp -s - examples/worked.answer || differs "./play does not read a pipe"
-grep -q 'line 9 (call 8)' "$work/words" || differs "./play has no words for a pipe"
+# hears HOW: what was written is the answer of this list, and the words are about its lines too
+hears() {
+    cmp -s "$work/played" examples/hold-until-key.answer && grep -q '^line 8: a timeout' "$work/words" || differs "./play does not read $1"
+}
+./play - <examples/hold-until-key.csv >"$work/played" 2>"$work/words"
+hears "standard input"
+cat examples/hold-until-key.csv | ./play - >"$work/played" 2>"$work/words"
+hears "a pipe as standard input"
+cat examples/hold-until-key.csv | ./play /dev/stdin >"$work/played" 2>"$work/words"
+hears "a pipe by its name"
 for help in --help -h; do
     ./play $help >"$work/played" 2>"$work/words"
     [ $? -eq 0 ] && [ ! -s "$work/words" ] || differs "./play $help does not end with status 0 and nothing on standard error"
