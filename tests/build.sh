@@ -75,7 +75,7 @@ start() {
     echo "play: it may be stopped with Ctrl-C at any time; the next ./play goes on where it was"
 }
 seeing() {
-    echo "play: seeing whether runlist is built from these sources; what changed is proved again"
+    echo "play: seeing whether runlist is built from these sources; what changed is proved again, in a second or in up to 5 minutes"
 }
 
 # ---- from nothing

@@ -152,7 +152,7 @@ line 10: this clear takes out 31 of the flag's 32 bits and keeps 1; $keeps: if 4
 END
 printf '%s\r\n' $header,d T,tn_event_clear,1,4294967293,, T,tn_event_clear,1,8589934591,, >"$work/file"
 plays "$work/file" 1
-[ "$(sed -n 's/^\(line [0-9]*\): this clear.*write 2 here$/\1/p' "$work/words")" = "line 2" ] || differs "./play does not warn of a clear in a refused file"
+[ "$(sed -n 's/: this clear.*//p' "$work/words")" = "line 2" ] || differs "./play does not warn of a clear in a refused file"
 
 # ---- refused calls
 plays examples/round-robin.csv 0
