@@ -160,10 +160,10 @@ awk -F'|' '
 ' "$page" >"$work/is"
 same "the contexts that $page says are refused"
 
-# ---- the timeouts that ./play looks at
-awk '{ for (i = 4; i <= NF; i++) if ($i == "timeout") print $2 ":" i - 3 }' "$work/table" | tr '\n' ' ' | sed 's/ $//' >"$work/wanted"
-sed -n "s/^timeouts='\(.*\)'\$/\1/p" play | tr -d '\n' >"$work/is"
-same "the timeouts of ./play"
+# ---- the table as ./play reads it, by tools/services.awk
+sed 's/^[0-9]* //' "$work/table" >"$work/wanted"
+awk -f tools/services.awk "$table" >"$work/is" || failed=1
+same "the table that ./play reads"
 
 [ "$failed" -eq 0 ] && echo "services: the header, the page and ./play say what the table says"
 exit "$failed"

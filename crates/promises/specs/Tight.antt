@@ -1,5 +1,17 @@
 -- What it is for a promise to leave one result and one content of every buffer.
 -- Rests on the logic's own notion of a contract: clauses over the arguments, the result and what every `&mut` holds last.
+--
+-- In plain words. A contract has two parts: what it requires of the caller, and what it ensures of the outcome. An outcome is what a
+-- function leaves behind: its result, together with what each `&mut` holds when it returns.
+--     Open       the contract requires nothing, so the function may be called with any arguments;
+--     allows     this outcome is one that the contract ensures, for these arguments;
+--     Typed      the outcome is one that a machine can have: an array in it has its length;
+--     Coincide   if the contract allows two outcomes for the same arguments, they are equal;
+--     Tight      it is Open, and any two Typed outcomes Coincide;
+--     Keeps      the compiled function meets the contract: so there is an outcome, and by Tight only one.
+-- A Promise is a contract that is kept and tight. For example, `r ≡ isSound s` is tight: two results that equal `isSound s` are equal.
+-- `r ≤ 24` would not be: it allows 3 and 4. The rest of this file is these words in the logic's own terms, where w is any model of the
+-- logic, κs are lifetimes, a the arguments, g and h the ghosts of a contract (all of ours are the unit) and o, p outcomes.
 use Prim.Native.Nat.{ℕ}
 use mathlib.Core.Path.{_≡_}
 use mathlib.Core.List.{List, [], _∷_}

@@ -20,6 +20,7 @@ pub struct Wait {
     pub kind: u8,
     pub object: u8,
     pub mode: u8,
+    pub spare: u8,
     pub remaining: u32,
     pub pattern: u32,
 }
@@ -34,6 +35,7 @@ pub struct Task {
     pub wakeups: u8,
     pub activations: u8,
     pub code: u8,
+    pub spare: u8,
     pub wait: Wait,
     pub handed: u32,
 }
@@ -79,7 +81,7 @@ pub struct Reply {
 }
 
 impl Wait {
-    pub const NONE: Wait = Wait { kind: 0, object: 0, mode: 0, remaining: 0, pattern: 0 };
+    pub const NONE: Wait = Wait { kind: 0, object: 0, mode: 0, spare: 0, remaining: 0, pattern: 0 };
 }
 
 impl Task {
@@ -91,6 +93,7 @@ impl Task {
         wakeups: 0,
         activations: 0,
         code: 0,
+        spare: 0,
         wait: Wait::NONE,
         handed: 0,
     };
@@ -145,6 +148,7 @@ pub fn store(kernel: &Kernel) -> State {
             wakeups: from.wakeups,
             activations: from.activations,
             code: from.wait_code.unsigned_abs(),
+            spare: 0,
             wait: stored_wait(from),
             handed: from.handed,
         };
@@ -178,7 +182,7 @@ fn stored_wait(task: &kernel::Task) -> Wait {
         kernel::Wait::Semaphore(s) => (2, s, NOTHING_ASKED),
         kernel::Wait::Flag(f, asked) => (3, f, asked),
     };
-    Wait { kind, object, mode: asked.all.into(), remaining: task.remaining, pattern: asked.pattern }
+    Wait { kind, object, mode: asked.all.into(), spare: 0, remaining: task.remaining, pattern: asked.pattern }
 }
 
 fn stored_queue(queue: &queue::Queue) -> Queue {

@@ -1,13 +1,13 @@
 //! Every number in the library's State by one running index, to damage any of them and to name the first that differs.
-//! The padding in a task's record is no number and has no index.
+//! No byte of it is without a number.
 
 use crate::layout::{Queue, State, FLAG_PLACES, LEVEL_PLACES, SEMAPHORE_PLACES, TASK_PLACES, WAIT_ROWS};
 use crate::queue::PLACES;
 
 #[rustfmt::skip]
-pub const TASK_FIELDS: [&str; 13] = [
-    "base", "priority", "active", "suspended", "wakeups", "activations", "code",
-    "wait.kind", "wait.object", "wait.mode", "wait.remaining", "wait.pattern", "handed",
+pub const TASK_FIELDS: [&str; 15] = [
+    "base", "priority", "active", "suspended", "wakeups", "activations", "code", "spare",
+    "wait.kind", "wait.object", "wait.mode", "wait.spare", "wait.remaining", "wait.pattern", "handed",
 ];
 
 const LEVELS_AT: usize = TASK_PLACES * TASK_FIELDS.len();
@@ -48,11 +48,13 @@ fn place(state: &mut State, slot: usize) -> Place<'_> {
                 4 => Place::Byte(&mut task.wakeups),
                 5 => Place::Byte(&mut task.activations),
                 6 => Place::Byte(&mut task.code),
-                7 => Place::Byte(&mut task.wait.kind),
-                8 => Place::Byte(&mut task.wait.object),
-                9 => Place::Byte(&mut task.wait.mode),
-                10 => Place::Word(&mut task.wait.remaining),
-                11 => Place::Word(&mut task.wait.pattern),
+                7 => Place::Byte(&mut task.spare),
+                8 => Place::Byte(&mut task.wait.kind),
+                9 => Place::Byte(&mut task.wait.object),
+                10 => Place::Byte(&mut task.wait.mode),
+                11 => Place::Byte(&mut task.wait.spare),
+                12 => Place::Word(&mut task.wait.remaining),
+                13 => Place::Word(&mut task.wait.pattern),
                 _ => Place::Word(&mut task.handed),
             }
         }

@@ -37,7 +37,7 @@ fn task_is_sound(s: &State, task: &Task) -> bool {
         && (task.active == 1 || is_at_rest(task))
 }
 
-/// Created ones have numbers in their ranges; the counts are 0 or 1; wait codes are 0, -4, -10 or -11.
+/// Created ones have numbers in their ranges; the counts are 0 or 1; wait codes are 0, -4, -10 or -11; the unused bytes are 0.
 fn numbers_in_range(task: &Task) -> bool {
     let level = 1..=LEVELS as u8;
     level.contains(&task.base)
@@ -47,6 +47,8 @@ fn numbers_in_range(task: &Task) -> bool {
         && task.wakeups <= 1
         && task.activations <= 1
         && matches!(task.code, 0 | 4 | 10 | 11)
+        && task.spare == 0
+        && task.wait.spare == 0
 }
 
 /// A task waits for nothing, a sleep, a created semaphore or a created flag.

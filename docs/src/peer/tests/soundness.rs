@@ -99,6 +99,14 @@ fn semaphores_list_exactly_their_waiters_once_each() {
 }
 
 #[test]
+fn the_unused_bytes_hold_0() {
+    for t in [1, 3, 7, 24] {
+        assert!(!with(|s| s.tasks[t].spare = 1));
+        assert!(!with(|s| s.tasks[t].wait.spare = 255));
+    }
+}
+
+#[test]
 fn places_past_the_end_hold_0() {
     assert!(!with(|s| s.levels[5].places.swap(1, 2))); // a hole
     assert!(!with(|s| s.waits[4].places.swap(1, 23)));

@@ -105,7 +105,7 @@ mod entry {
     }
 
     fn bytes_of(state: &State) -> &[u8] {
-        // SAFETY: a State is plain numbers; its padding is copied from zeroed or received bytes.
+        // SAFETY: a State is plain numbers, and no byte of it is padding.
         unsafe { std::slice::from_raw_parts((state as *const State).cast(), size_of::<State>()) }
     }
 
