@@ -35,10 +35,12 @@ table =
     ∷ shows (queue 1) (1 ∷ []) ∷ shows (wakeups 1) (1 ∷ []) ∷ task (TaskSuspend 1) ok 0 ∷ task (TaskReleaseWait 1) ok 0 ∷ shows (queue 1) [] ∷ shows (suspended 1) (1 ∷ [])
     ∷ shows (wakeups 1) (1 ∷ []) ∷ shows (handed 1) (0 ∷ []) ∷ waitCode 1 (minus 11) ∷ task (TaskResume 1) ok 1 ∷ task (TaskSleep 1) ok 1 ∷ shows (wakeups 1) (0 ∷ []) ∷ waitCode 1 (minus 11)
     ∷ task (SemAcquire 1 9) pending 0 ∷ waitCode 1 ok ∷ task (TaskReleaseWait 1) ok 1 ∷ waitCode 1 (minus 11) ∷ task (TaskSleep 1) pending 0 ∷ waitCode 1 ok ∷ [])
-    -- change_priority: an equal priority keeps the place, 0 too where it means that one; another goes last in its level, 0 in the level of creation
+    -- change_priority: an equal priority keeps the place, 0 too where it means that one; another goes last in its level, 0 in the level of creation.
+    -- exit: with an activation counted the task is last in its level, the same one too
     ∷ from0
     (task (TaskCreate 1 5 1) ok 1 ∷ task (TaskCreate 2 5 1) ok 1 ∷ task (TaskChangePriority 1 5) ok 1 ∷ task (TaskChangePriority 1 0) ok 1 ∷ shows (order 5) (1 ∷ 2 ∷ [])
-    ∷ task (TaskChangePriority 1 30) ok 2 ∷ shows (order 30) (1 ∷ []) ∷ task (TaskChangePriority 1 0) ok 2 ∷ shows (order 5) (2 ∷ 1 ∷ []) ∷ [])
+    ∷ task (TaskChangePriority 1 30) ok 2 ∷ shows (order 30) (1 ∷ []) ∷ task (TaskChangePriority 1 0) ok 2 ∷ shows (order 5) (2 ∷ 1 ∷ [])
+    ∷ task (TaskActivate 2) ok 2 ∷ task TaskExit ok 1 ∷ shows (order 5) (1 ∷ 2 ∷ []) ∷ [])
     -- a waiter with another priority keeps its place; a deletion ends all waits, and suspension stays; a deleted semaphore may be created again
     ∷ from0
     (task (SemCreate 1 0 1) ok 0 ∷ task (TaskCreate 1 5 1) ok 1 ∷ task (SemAcquire 1 9) pending 0 ∷ task (TaskCreate 2 6 1) ok 2 ∷ task (SemAcquire 1 9) pending 0
