@@ -28,17 +28,19 @@ table =
     ∷ shows (queue 12) (1 ∷ []) ∷ shows (remaining 1) (8 ∷ []) ∷ task (TaskCreate 2 5 1) ok 2 ∷ task (TaskCreate 3 5 1) ok 2 ∷ task (TaskSuspend 2) ok 3 ∷ task (TaskResume 2) ok 3
     ∷ shows (order 5) (3 ∷ 2 ∷ []) ∷ [])
     -- sleep, wakeup, release_wait: a sleep that is woken ends, and suspension stays; the wakeup of any other waiter is counted and it waits on; a
-    -- release leaves that count and suspension; a counted wakeup is used up by a sleep, which then leaves the wait code
+    -- release leaves that count and suspension; a counted wakeup is used up by a sleep, which then leaves the wait code. It is 0 when a wait begins
     ∷ from0
     (task (SemCreate 1 0 1) ok 0 ∷ task (TaskCreate 1 5 1) ok 1 ∷ task (TaskSleep 9) pending 0 ∷ shows (remaining 1) (9 ∷ []) ∷ task (TaskSuspend 1) ok 0 ∷ task (TaskWakeup 1) ok 0
     ∷ shows (suspended 1) (1 ∷ []) ∷ shows (remaining 1) (0 ∷ []) ∷ shows (wakeups 1) (0 ∷ []) ∷ shows (handed 1) (0 ∷ []) ∷ waitCode 1 ok ∷ task (TaskResume 1) ok 1 ∷ task (SemAcquire 1 9) pending 0 ∷ task (TaskWakeup 1) ok 0
     ∷ shows (queue 1) (1 ∷ []) ∷ shows (wakeups 1) (1 ∷ []) ∷ task (TaskSuspend 1) ok 0 ∷ task (TaskReleaseWait 1) ok 0 ∷ shows (queue 1) [] ∷ shows (suspended 1) (1 ∷ [])
     ∷ shows (wakeups 1) (1 ∷ []) ∷ shows (handed 1) (0 ∷ []) ∷ waitCode 1 (minus 11) ∷ task (TaskResume 1) ok 1 ∷ task (TaskSleep 1) ok 1 ∷ shows (wakeups 1) (0 ∷ []) ∷ waitCode 1 (minus 11)
-    ∷ task (TaskSleep 1) pending 0 ∷ waitCode 1 ok ∷ [])
-    -- change_priority: an equal priority keeps the place, 0 too where it means that one; another goes last in its level, 0 in the level of creation
+    ∷ task (SemAcquire 1 9) pending 0 ∷ waitCode 1 ok ∷ task (TaskReleaseWait 1) ok 1 ∷ waitCode 1 (minus 11) ∷ task (TaskSleep 1) pending 0 ∷ waitCode 1 ok ∷ [])
+    -- change_priority: an equal priority keeps the place, 0 too where it means that one; another goes last in its level, 0 in the level of creation.
+    -- exit: with an activation counted the task is last in its level, the same one too
     ∷ from0
     (task (TaskCreate 1 5 1) ok 1 ∷ task (TaskCreate 2 5 1) ok 1 ∷ task (TaskChangePriority 1 5) ok 1 ∷ task (TaskChangePriority 1 0) ok 1 ∷ shows (order 5) (1 ∷ 2 ∷ [])
-    ∷ task (TaskChangePriority 1 30) ok 2 ∷ shows (order 30) (1 ∷ []) ∷ task (TaskChangePriority 1 0) ok 2 ∷ shows (order 5) (2 ∷ 1 ∷ []) ∷ [])
+    ∷ task (TaskChangePriority 1 30) ok 2 ∷ shows (order 30) (1 ∷ []) ∷ task (TaskChangePriority 1 0) ok 2 ∷ shows (order 5) (2 ∷ 1 ∷ [])
+    ∷ task (TaskActivate 2) ok 2 ∷ task TaskExit ok 1 ∷ shows (order 5) (1 ∷ 2 ∷ []) ∷ [])
     -- a waiter with another priority keeps its place; a deletion ends all waits, and suspension stays; a deleted semaphore may be created again
     ∷ from0
     (task (SemCreate 1 0 1) ok 0 ∷ task (TaskCreate 1 5 1) ok 1 ∷ task (SemAcquire 1 9) pending 0 ∷ task (TaskCreate 2 6 1) ok 2 ∷ task (SemAcquire 1 9) pending 0
@@ -50,9 +52,9 @@ table =
     ∷ ticks 1 ∷ shows (charged 30) (1 ∷ []) ∷ task (SysTsliceTicks 30 0) ok 1 ∷ ticks 1 ∷ shows (charged 30) (0 ∷ []) ∷ [])
     -- signal, polling, acquire: the count goes by one, without a wait where it is above 0; the maximum stays
     ∷ from0
-    (task (SemCreate 12 1 3) ok 0 ∷ task (SemSignal 12) ok 0 ∷ shows (counted 12) (2 ∷ []) ∷ task (SemPolling 12) ok 0 ∷ shows (counted 12) (1 ∷ []) ∷ task (TaskCreate 1 5 1) ok 1
-    ∷ task (SemSignal 12) ok 1 ∷ task (SemAcquire 12 4294967295) ok 1 ∷ shows (counted 12) (1 ∷ []) ∷ task (SemSignal 12) ok 1 ∷ task (SemSignal 12) ok 1 ∷ shows (counted 12) (3 ∷ [])
-    ∷ refuses (each (minus 1) (T (SemSignal 12) ∷ []) ∷ []) ∷ [])
+    (task (SemCreate 12 2 3) ok 0 ∷ task (TaskCreate 1 5 1) ok 1 ∷ task (SemAcquire 12 4294967295) ok 1 ∷ shows (counted 12) (1 ∷ []) ∷ task (SemAcquire 12 1) ok 1 ∷ shows (counted 12) (0 ∷ [])
+    ∷ task (SemSignal 12) ok 1 ∷ task (SemSignal 12) ok 1 ∷ shows (counted 12) (2 ∷ []) ∷ task (SemPolling 12) ok 1 ∷ shows (counted 12) (1 ∷ []) ∷ task (SemSignal 12) ok 1
+    ∷ task (SemSignal 12) ok 1 ∷ shows (counted 12) (3 ∷ []) ∷ refuses (each (minus 1) (T (SemSignal 12) ∷ []) ∷ []) ∷ [])
     ∷ []
 
 pub accepted : So (allHold table)

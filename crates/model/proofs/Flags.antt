@@ -30,11 +30,13 @@ table =
     -- so has a wait that is met at once, and its record is left
     ∷ from0
     (task (OnFlag 1 (Create 3 5)) ok 0 ∷ task (TaskCreate 1 5 1) ok 1 ∷ taskGets (OnFlag 1 (Wait 4 0 1)) ok 1 5 ∷ shows (handed 1) (0 ∷ []) ∷ shows (bits 1) (0 ∷ []) ∷ [])
-    -- one bit is enough for OR, in a poll, a set and a wait; SINGLE and CLR stay through all of them and through a clear
+    -- one bit is enough for OR, in a poll, a set and a wait; SINGLE and CLR stay through all of them and through a clear; what
+    -- was handed over stays until the next wait begins
     ∷ from0
     (task (OnFlag 8 (Create 3 6)) ok 0 ∷ task (OnFlag 8 (Clear 2)) ok 0 ∷ taskGets (OnFlag 8 (WaitPolling 5 0)) ok 0 4 ∷ shows (bits 8) (0 ∷ []) ∷ task (TaskCreate 1 5 1) ok 1
     ∷ task (OnFlag 8 (Wait 6 0 9)) pending 0 ∷ shows (flagQueue 8) (1 ∷ []) ∷ refuses (each (minus 8) (T (OnFlag 8 (WaitPolling 6 0)) ∷ []) ∷ []) ∷ task (OnFlag 8 (Set 2)) ok 1
-    ∷ shows (handed 1) (2 ∷ []) ∷ shows (bits 8) (0 ∷ []) ∷ task (OnFlag 8 (Set 2)) ok 1 ∷ shows (bits 8) (2 ∷ []) ∷ taskGets (OnFlag 8 (Wait 3 0 1)) ok 1 2 ∷ shows (bits 8) (0 ∷ []) ∷ [])
+    ∷ shows (handed 1) (2 ∷ []) ∷ shows (bits 8) (0 ∷ []) ∷ task (OnFlag 8 (Set 2)) ok 1 ∷ shows (bits 8) (2 ∷ []) ∷ taskGets (OnFlag 8 (Wait 3 0 1)) ok 1 2 ∷ shows (bits 8) (0 ∷ [])
+    ∷ shows (handed 1) (2 ∷ []) ∷ task (OnFlag 8 (Wait 3 0 1)) pending 0 ∷ shows (handed 1) (0 ∷ []) ∷ [])
     -- a flag waiter times out
     ∷ from0
     (task (OnFlag 1 (Create 0 0)) ok 0 ∷ task (TaskCreate 1 5 1) ok 1 ∷ task (OnFlag 1 (Wait 1 0 1)) pending 0 ∷ shows (pattern 1) (1 ∷ [])
