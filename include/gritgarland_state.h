@@ -9,7 +9,7 @@
 
 #include <stdint.h>
 
-/* The layout changed once, before version 1.5.0; what was built against the earlier one must be built again.
+/* The layout changed before version 1.5.0, last as this table says; what was built against an earlier one must be built again.
      was                                             is
      tasks[t].wait                                   tasks[t].wait.kind
      tasks[t].object, .mode, .remaining, .pattern    the same in tasks[t].wait; the fields of a task stand in another order

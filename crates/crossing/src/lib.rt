@@ -1,4 +1,4 @@
-// The test of a table of queues by crossing off, which looks at each place once.
+// The test of a table of queues by crossing off, which looks at each place once and at the first 0 of a row twice.
 // Each function is a definition of specs/Crossing, for every value; it rests on model alone.
 ghost use mathlib.Core.Path.{_≡_};
 ghost use lib.ListN.{length, drop};

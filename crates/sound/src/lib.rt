@@ -1,4 +1,5 @@
-// The test that the public entries make of any state: whether it is sound. Each record is read once, each place of a queue three times at most.
+// The test that the public entries make of any state: whether it is sound. A task's record is read once, a place of a
+// queue three times at most; docs/ARCHITECTURE.md counts them.
 // Each function is a definition of model/specs/Test, for every value; it rests on sound_parts for single places, on crossing for
 // queues, and on the tables that it is lent.
 ghost use mathlib.Core.Path.{_≡_};
