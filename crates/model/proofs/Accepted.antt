@@ -6,7 +6,7 @@ use lib.Dec.{T as So}
 use Rattle.model.specs.declared.Call.{Call}
 use Rattle.model.specs.declared.Call.the-variants.{TaskCreate, TaskDelete, TaskActivate, TaskExit, TaskTerminate, TaskSuspend, TaskResume, TaskSleep, TaskWakeup, TaskReleaseWait, TaskChangePriority, SysTsliceTicks, SemCreate, SemDelete, SemSignal, SemAcquire, SemPolling}
 use Rattle.model.specs.Code.{minus}
-use Rattle.model.specs.Bench.{suspended, priority, remaining, wakeups, handed, order, charged, queue, counted, shows, waitCode, refuses, Case, allHold}
+use Rattle.model.specs.Bench.{suspended, priority, remaining, wakeups, handed, charge, order, queue, counted, shows, waitCode, refuses, Case, allHold}
 use Rattle.model.proofs.Words.{ok, pending, task, ticks, T, each, from0, opened}
 
 pub table : List Case
@@ -48,8 +48,8 @@ table =
     ∷ waitCode 1 (minus 10) ∷ waitCode 2 (minus 10) ∷ shows (suspended 1) (1 ∷ []) ∷ shows (handed 1) (0 ∷ []) ∷ shows (order 4) (2 ∷ []) ∷ task (SemCreate 1 1 1) ok 2 ∷ shows (counted 1) (1 ∷ []) ∷ [])
     -- tslice_ticks: the charge is cleared, by the same slice too; with slice 0 nothing is charged. The level is the current one
     ∷ from0
-    (task (SysTsliceTicks 30 1000) ok 0 ∷ task (TaskCreate 1 29 1) ok 1 ∷ task (TaskChangePriority 1 30) ok 1 ∷ ticks 1 ∷ shows (charged 30) (1 ∷ []) ∷ task (SysTsliceTicks 30 1000) ok 1 ∷ shows (charged 30) (0 ∷ [])
-    ∷ ticks 1 ∷ shows (charged 30) (1 ∷ []) ∷ task (SysTsliceTicks 30 0) ok 1 ∷ ticks 1 ∷ shows (charged 30) (0 ∷ []) ∷ [])
+    (task (SysTsliceTicks 30 1000) ok 0 ∷ task (TaskCreate 1 29 1) ok 1 ∷ task (TaskChangePriority 1 30) ok 1 ∷ ticks 1 ∷ shows (charge 1) (1 ∷ []) ∷ task (SysTsliceTicks 30 1000) ok 1 ∷ shows (charge 1) (0 ∷ [])
+    ∷ ticks 1 ∷ shows (charge 1) (1 ∷ []) ∷ task (SysTsliceTicks 30 0) ok 1 ∷ ticks 1 ∷ shows (charge 1) (0 ∷ []) ∷ [])
     -- signal, polling, acquire: the count goes by one, without a wait where it is above 0; the maximum stays
     ∷ from0
     (task (SemCreate 12 2 3) ok 0 ∷ task (TaskCreate 1 5 1) ok 1 ∷ task (SemAcquire 12 4294967295) ok 1 ∷ shows (counted 12) (1 ∷ []) ∷ task (SemAcquire 12 1) ok 1 ∷ shows (counted 12) (0 ∷ [])

@@ -1,4 +1,4 @@
--- The bench table: document 01's starred cases, its worked list of ten calls, and vectors of corner cases, as rows of one table
+-- The bench table: document 01's starred cases and case 13, its worked list of ten calls, and vectors of corner cases, as rows of one table
 -- that is computed over the very definitions that the kernel's contracts cite. A damaged definition is refused here.
 use mathlib.Core.List.{List, [], _∷_}
 use Prim.Native.Nat.{ℕ}
@@ -8,7 +8,7 @@ use Rattle.model.specs.declared.Call.{Call}
 use Rattle.model.specs.declared.Call.the-variants.{TaskCreate, TaskActivate, TaskExit, TaskTerminate, TaskSuspend, TaskResume, TaskSleep, TaskWakeup, TaskIwakeup, TaskChangePriority, SysTsliceTicks, SemCreate, SemDelete, SemSignal, SemIsignal, SemAcquire, SemPolling}
 use Rattle.model.specs.State.{fresh, withTime}
 use Rattle.model.specs.Code.{minus}
-use Rattle.model.specs.Bench.{time, waitCode, suspended, priority, remaining, wakeups, handed, order, charged, queue, counted, shows, Case, allHold}
+use Rattle.model.specs.Bench.{time, waitCode, suspended, priority, remaining, wakeups, handed, charge, order, queue, counted, shows, Case, allHold}
 use Rattle.model.proofs.Words.{ok, pending, task, int, ticks, from0, opened}
 
 at : ℕ → State
@@ -75,10 +75,6 @@ table =
     (task (SemCreate 1 0 1) ok 0 ∷ task (TaskCreate 1 5 1) ok 1 ∷ task (SemAcquire 1 9) pending 0 ∷ task (TaskCreate 2 5 1) ok 2 ∷ task (SemAcquire 1 9) pending 0
     ∷ task (TaskSuspend 1) ok 0 ∷ task (TaskWakeup 1) ok 0 ∷ task (SemSignal 1) ok 0 ∷ waitCode 1 ok ∷ shows (suspended 1) (1 ∷ []) ∷ shows (wakeups 1) (1 ∷ []) ∷ shows (handed 1) (0 ∷ [])
     ∷ shows (queue 1) (2 ∷ []) ∷ [])
-    -- a level's charge stays when its tasks leave
-    ∷ from0
-    (task (SysTsliceTicks 6 3) ok 0 ∷ task (TaskCreate 1 6 1) ok 1 ∷ ticks 1 ∷ ticks 1 ∷ task (TaskSleep 9) pending 0 ∷ task (TaskCreate 2 6 1) ok 2 ∷ task (TaskCreate 3 6 1) ok 2
-    ∷ ticks 3 ∷ shows (order 6) (3 ∷ 2 ∷ []) ∷ [])
     -- a preempted task keeps its place
     ∷ from0
     (task (TaskCreate 1 6 1) ok 1 ∷ task (TaskCreate 2 6 1) ok 1 ∷ task (TaskCreate 3 2 1) ok 3 ∷ shows (order 6) (1 ∷ 2 ∷ []) ∷ task TaskExit ok 1 ∷ [])
@@ -88,10 +84,45 @@ table =
     -- a release that wakes a waiter leaves the count
     ∷ from0
     (task (SemCreate 1 0 2) ok 0 ∷ task (TaskCreate 1 5 1) ok 1 ∷ task (SemAcquire 1 9) pending 0 ∷ task (SemSignal 1) ok 1 ∷ shows (counted 1) (0 ∷ []) ∷ [])
-    -- the level that runs as the tick comes is charged, not the one that runs after its timeouts
+    -- the charges. Who runs as the tick comes is charged, not who runs after its timeouts
     ∷ from0
     (task (SysTsliceTicks 6 3) ok 0 ∷ task (SysTsliceTicks 5 3) ok 0 ∷ task (TaskCreate 1 5 1) ok 1 ∷ task (TaskSleep 1) pending 0 ∷ task (TaskCreate 2 6 1) ok 2
-    ∷ ticks 1 ∷ shows (charged 6) (1 ∷ []) ∷ shows (charged 5) (0 ∷ []) ∷ [])
+    ∷ ticks 1 ∷ shows (charge 2) (1 ∷ []) ∷ shows (charge 1) (0 ∷ []) ∷ [])
+    -- 13, as request P3 has it: the charge is the task's own, so who comes next has its whole slice
+    ∷ from0
+    (task (SysTsliceTicks 6 3) ok 0 ∷ task (TaskCreate 1 6 1) ok 1 ∷ task (TaskCreate 2 6 1) ok 1 ∷ task (TaskCreate 3 6 1) ok 1 ∷ ticks 1 ∷ ticks 1
+    ∷ task (TaskSleep 100) pending 2 ∷ ticks 2 ∷ ticks 2 ∷ ticks 3 ∷ shows (order 6) (3 ∷ 2 ∷ []) ∷ [])
+    -- a level that was empty for a while keeps nothing of it
+    ∷ from0
+    (task (SysTsliceTicks 6 3) ok 0 ∷ task (TaskCreate 1 6 1) ok 1 ∷ ticks 1 ∷ ticks 1 ∷ task (TaskSleep 9) pending 0 ∷ task (TaskCreate 2 6 1) ok 2 ∷ task (TaskCreate 3 6 1) ok 2
+    ∷ ticks 2 ∷ ticks 2 ∷ ticks 3 ∷ [])
+    -- who sleeps in the middle of its slice comes back with none of it used
+    ∷ from0
+    (task (SysTsliceTicks 6 3) ok 0 ∷ task (TaskCreate 1 6 1) ok 1 ∷ task (TaskCreate 2 6 1) ok 1 ∷ ticks 1 ∷ ticks 1 ∷ shows (charge 1) (2 ∷ []) ∷ task (TaskSleep 1) pending 2 ∷ shows (charge 1) (0 ∷ [])
+    ∷ ticks 2 ∷ shows (order 6) (2 ∷ 1 ∷ []) ∷ shows (charge 2) (1 ∷ []) ∷ shows (charge 1) (0 ∷ []) ∷ ticks 2 ∷ ticks 1 ∷ shows (charge 2) (0 ∷ []) ∷ ticks 1 ∷ ticks 1 ∷ ticks 2 ∷ [])
+    -- a preempted first keeps its charge
+    ∷ from0
+    (task (SysTsliceTicks 6 3) ok 0 ∷ task (TaskCreate 1 6 1) ok 1 ∷ task (TaskCreate 2 6 1) ok 1 ∷ ticks 1 ∷ ticks 1 ∷ task (TaskCreate 3 2 1) ok 3 ∷ shows (charge 1) (2 ∷ [])
+    ∷ ticks 3 ∷ shows (charge 1) (2 ∷ []) ∷ shows (charge 3) (0 ∷ []) ∷ task TaskExit ok 1 ∷ shows (charge 1) (2 ∷ []) ∷ ticks 2 ∷ shows (charge 1) (0 ∷ []) ∷ shows (order 6) (2 ∷ 1 ∷ []) ∷ [])
+    -- a slice set in the middle begins anew, and leaves the other levels
+    ∷ from0
+    (task (SysTsliceTicks 6 3) ok 0 ∷ task (TaskCreate 1 6 1) ok 1 ∷ task (TaskCreate 2 6 1) ok 1 ∷ ticks 1 ∷ ticks 1 ∷ task (SysTsliceTicks 7 1) ok 1 ∷ shows (charge 1) (2 ∷ []) ∷ task (SysTsliceTicks 6 2) ok 1 ∷ shows (charge 1) (0 ∷ [])
+    ∷ ticks 1 ∷ shows (charge 1) (1 ∷ []) ∷ ticks 2 ∷ [])
+    -- a priority changed in the middle: an equal one changes nothing, another clears the charge, and back again it is still cleared
+    ∷ from0
+    (task (SysTsliceTicks 6 3) ok 0 ∷ task (SysTsliceTicks 7 3) ok 0 ∷ task (TaskCreate 1 6 1) ok 1 ∷ task (TaskCreate 2 7 1) ok 1 ∷ ticks 1 ∷ ticks 1 ∷ task (TaskChangePriority 1 6) ok 1 ∷ task (TaskChangePriority 1 0) ok 1 ∷ shows (charge 1) (2 ∷ [])
+    ∷ task (TaskChangePriority 1 7) ok 2 ∷ shows (charge 1) (0 ∷ []) ∷ ticks 2 ∷ shows (charge 2) (1 ∷ []) ∷ task (TaskChangePriority 1 6) ok 1 ∷ shows (charge 1) (0 ∷ []) ∷ shows (charge 2) (1 ∷ []) ∷ [])
+    -- the charge of a single task returns to 0 at the slice, and a newcomer sees what is left of it
+    ∷ from0
+    (task (SysTsliceTicks 6 2) ok 0 ∷ task (TaskCreate 1 6 1) ok 1 ∷ ticks 1 ∷ shows (charge 1) (1 ∷ []) ∷ ticks 1 ∷ shows (charge 1) (0 ∷ []) ∷ ticks 1 ∷ shows (charge 1) (1 ∷ [])
+    ∷ task (TaskCreate 2 6 1) ok 1 ∷ ticks 2 ∷ [])
+    -- counted activations and wakeups leave the charge; an exit that uses one up clears it
+    ∷ from0
+    (task (SysTsliceTicks 6 3) ok 0 ∷ task (TaskCreate 1 6 1) ok 1 ∷ ticks 1 ∷ ticks 1 ∷ task (TaskWakeup 1) ok 1 ∷ task (TaskActivate 1) ok 1 ∷ shows (charge 1) (2 ∷ []) ∷ task TaskExit ok 1 ∷ shows (charge 1) (0 ∷ []) ∷ [])
+    -- suspended and resumed, or terminated and restarted, by another: the charge is gone
+    ∷ from0
+    (task (SysTsliceTicks 6 3) ok 0 ∷ task (TaskCreate 1 6 1) ok 1 ∷ ticks 1 ∷ task (TaskCreate 2 2 1) ok 2 ∷ task (TaskSuspend 1) ok 2 ∷ shows (charge 1) (0 ∷ []) ∷ task (TaskResume 1) ok 2 ∷ shows (charge 1) (0 ∷ [])
+    ∷ task (TaskSleep 2) pending 1 ∷ ticks 1 ∷ shows (charge 1) (1 ∷ []) ∷ ticks 2 ∷ shows (charge 1) (2 ∷ []) ∷ task (TaskActivate 1) ok 2 ∷ task (TaskTerminate 1) ok 2 ∷ shows (charge 1) (0 ∷ []) ∷ shows (order 6) (1 ∷ []) ∷ [])
     ∷ []
 
 pub bench : So (allHold table)
