@@ -1,25 +1,25 @@
--- The tests of a level's, a semaphore's and a flag's numbers, and of what a wait asks for, say what soundness says of them.
+-- The tests of a charge, of a semaphore's and a flag's numbers, and of what a wait asks for, say what soundness says of them.
 -- Rests on Says.
 use mathlib.Core.Path.{_≡_}
 use mathlib.Core.Bool.{false}
-use mathlib.Core.Logic.{_⊎_}
-use Prim.Native.Nat.{ℕ, _≤_, _<_}
+use mathlib.Core.List.{List}
+use Prim.Native.Nat.{ℕ, _≤_}
 use lib.Dec.{T as So}
 use Rattle.model.specs.declared.Wait.{Wait}
+use Rattle.model.specs.declared.Queue.{Queue}
+use Rattle.model.specs.declared.Task.{Task}
 use Rattle.model.specs.Flag.{isFlagAttributes, isSingle, isMet}
 use Rattle.model.specs.Task.{aFlag}
-use Rattle.model.specs.Test.{isRateSound, isCountSound, isFlagSound, isUnmet}
+use Rattle.model.specs.Test.{isChargeSound, isChargeOf, isCountSound, isFlagSound, isUnmet}
+use Rattle.model.specs.Sound.{SoundCharge}
 use Rattle.laws.proofs.Says.{Says, says-same, says-false, says-eq, says-le, says-lt, says-not, says-and, says-or, says-implies}
-
-abbrev pub Rate : ℕ → ℕ → Type 0
-Rate v n = (v ≤ 1000) × ((n < v) ⊎ ((v ≡ 0) × (n ≡ 0)))
 
 abbrev pub Counted : ℕ → ℕ → ℕ → Type 0
 Counted n v firstWaiter = (n ≤ v) × ((v ≤ 65535) × ((firstWaiter ≡ 0 → ⊥) → (n ≡ 0) × (v ≡ 0 → ⊥)))
 
-pub says-rate : (v n : ℕ) → Says (isRateSound v n) (Rate v n)
-unfolding isRateSound
-says-rate v n = says-and says-le (says-or says-lt (says-and says-eq says-eq))
+pub says-charge : (ls : List Queue) (vs : List ℕ) (t : ℕ) (x : Task) → Says (isChargeOf ls vs t x) (SoundCharge ls vs t x)
+unfolding isChargeSound
+says-charge ls vs t x = says-or says-eq (says-and says-eq says-lt)
 
 pub says-count : (n v firstWaiter : ℕ) → Says (isCountSound n v firstWaiter) (Counted n v firstWaiter)
 unfolding isCountSound

@@ -2,23 +2,25 @@
 -- Rests on Records for the tasks, on Numbers for the other tables and on Listed for the two tables of queues.
 use mathlib.Core.Path.{_≡_, refl, ap, _∙_}
 use mathlib.Core.Bool.{Bool, true, false}
-use mathlib.Core.Logic.{inr, ⊎-elim, _↔_}
+use mathlib.Core.Logic.{inl, ⊎-elim, _↔_}
 use Prim.Native.Nat.{ℕ, _+_, _≤_, _<_}
 use native.Mathlib.Omega.{arith}
 use lib.Dec.{T as So}
 use lib.ListN.{length, List·getD-eq-default}
+use Rattle.model.specs.declared.Task.{Task}
 use Rattle.model.specs.declared.State.{State}
 use Rattle.model.specs.Row.{firstOf, secondOf}
 use Rattle.model.specs.Flag.{isFlagAttributes, isSingle, isMet, flagRow}
 use Rattle.model.specs.Task.{noTask, levelOf, rowOf}
-use Rattle.model.specs.State.{task, slice, charge, count, maximum, attribute, bitsOf}
-use Rattle.model.specs.Test.{listsExactly, isTaskSound, isRateSound, isCountSound, isFlagSound, isUnmet, isSized, isOrigin, isSound}
-use Rattle.model.specs.Sound.{Lists, SoundTask, Sound}
+use Rattle.model.specs.State.{task, slice, count, maximum, attribute, bitsOf}
+use Rattle.model.specs.Plan.{isSlice}
+use Rattle.model.specs.Test.{listsExactly, isTaskSound, isChargeOf, isCountSound, isFlagSound, isUnmet, isSized, isOrigin, isSound}
+use Rattle.model.specs.Sound.{Lists, SoundTask, SoundCharge, Sound}
 use Rattle.laws.proofs.Number.{same?}
 use Rattle.laws.proofs.Record.{sound-none, row-none, row-most, flag-row, flag-none, row-flag, flag-waits}
-use Rattle.laws.proofs.Says.{Says, says-as, says-same, says-eq, says-and, says-below, everywhere}
+use Rattle.laws.proofs.Says.{Says, says-as, says-same, says-eq, says-le, says-and, says-below, everywhere}
 use Rattle.tested.specs.Statements.{SoundExactly}
-use Rattle.tested.proofs.Numbers.{Rate, Counted, Flagged, Unmet, says-rate, says-count, says-flag, says-unmet}
+use Rattle.tested.proofs.Numbers.{Counted, Flagged, Unmet, says-charge, says-count, says-flag, says-unmet}
 use Rattle.tested.proofs.Records.{says-blank, says-task, level-none, level-most}
 use Rattle.tested.proofs.Listed.{Queues, Listed, says-queues, lists-of-test, test-of-lists, first-listed, listed-first, second-alone, alone-second}
 
@@ -28,20 +30,20 @@ record Sized (s : State) : Type 0 where
   levels# : Queues 31 (s .levels)
   waits# : Queues 21 (s .waits)
   slices# : length (s .numbers .slices) ≡ 31
-  charges# : length (s .numbers .charges) ≡ 31
   counts# : length (s .numbers .counts) ≡ 13
   maxima# : length (s .numbers .maxima) ≡ 13
   attributes# : length (s .numbers .attributes) ≡ 9
   bits# : length (s .numbers .bits) ≡ 9
 
 abbrev Origin : State → Type 0
-Origin s = (task s 0 ≡ noTask) × (slice s 0 ≡ 0) × (charge s 0 ≡ 0) × (count s 0 ≡ 0) × (maximum s 0 ≡ 0) × (attribute s 0 ≡ 0) × (bitsOf s 0 ≡ 0)
+Origin s = (task s 0 ≡ noTask) × (slice s 0 ≡ 0) × (count s 0 ≡ 0) × (maximum s 0 ≡ 0) × (attribute s 0 ≡ 0) × (bitsOf s 0 ≡ 0)
 
 record Parts (s : State) : Type 0 where
   sized : Sized s
   origin : Origin s
   tasks : (t : ℕ) → t < 25 → SoundTask (task s t)
-  rates : (l : ℕ) → l < 31 → Rate (slice s l) (charge s l)
+  slices : (l : ℕ) → l < 31 → slice s l ≤ 1000
+  charges : (t : ℕ) → t < 25 → SoundCharge (s .levels) (s .numbers .slices) t (task s t)
   counts : (m : ℕ) → m < 13 → Counted (count s m) (maximum s m) (firstOf (s .waits) m)
   flags : (f : ℕ) → f < 9 → Flagged (attribute s f) (bitsOf s f) (firstOf (s .waits) (flagRow f)) (secondOf (s .waits) (flagRow f))
   unmet : (t : ℕ) → t < 25 → Unmet (task s t .wait) (bitsOf s (task s t .wait .object))
@@ -56,20 +58,19 @@ module _ (s : State) where
         levels# = p .1 .0;
         waits# = p .1 .1 .0;
         slices# = q .0;
-        charges# = q .1 .0;
-        counts# = q .1 .1 .0;
-        maxima# = q .1 .1 .1 .0;
-        attributes# = q .1 .1 .1 .1 .0;
-        bits# = q .1 .1 .1 .1 .1;
+        counts# = q .1 .0;
+        maxima# = q .1 .1 .0;
+        attributes# = q .1 .1 .1 .0;
+        bits# = q .1 .1 .1 .1;
       })
-      (λ z. (z .tasks#, (z .levels#, (z .waits#, (z .slices#, (z .charges#, (z .counts#, (z .maxima#, (z .attributes#, z .bits#)))))))))
-      (says-and says-eq (says-and (says-queues 31 (s .levels)) (says-and (says-queues 21 (s .waits)) (says-and says-eq (says-and says-eq (says-and says-eq (says-and says-eq (says-and says-eq says-eq))))))))
+      (λ z. (z .tasks#, (z .levels#, (z .waits#, (z .slices#, (z .counts#, (z .maxima#, (z .attributes#, z .bits#))))))))
+      (says-and says-eq (says-and (says-queues 31 (s .levels)) (says-and (says-queues 21 (s .waits)) (says-and says-eq (says-and says-eq (says-and says-eq (says-and says-eq says-eq)))))))
 
   says-origin : Says (isOrigin s) (Origin s)
   says-origin = says-as
-      (λ p. let q = p .1 .1 .1 .1 in (p .0, p .1 .0, p .1 .1 .0, p .1 .1 .1 .0, q .0, q .1 .0, q .1 .1))
-      (λ p. (p .0, (p .1, (p .2, (p .3, (p .4, (p .5, p .6)))))))
-      (says-and (says-blank (task s 0)) (says-and says-eq (says-and says-eq (says-and says-eq (says-and says-eq (says-and says-eq says-eq))))))
+      (λ p. let q = p .1 .1 .1 .1 in (p .0, p .1 .0, p .1 .1 .0, p .1 .1 .1 .0, q .0, q .1))
+      (λ p. (p .0, (p .1, (p .2, (p .3, (p .4, p .5))))))
+      (says-and (says-blank (task s 0)) (says-and says-eq (says-and says-eq (says-and says-eq (says-and says-eq says-eq)))))
 
   says-parts : Says (isSound s) (Parts s)
   unfolding isSound
@@ -78,17 +79,21 @@ module _ (s : State) where
         sized = p .0;
         origin = p .1 .0;
         tasks = p .1 .1 .0;
-        rates = q .0;
-        counts = q .1 .0;
-        flags = q .1 .1 .0;
-        unmet = q .1 .1 .1 .0;
-        levels = q .1 .1 .1 .1 .0;
-        waits = q .1 .1 .1 .1 .1;
+        slices = q .0;
+        charges = q .1 .0;
+        counts = q .1 .1 .0;
+        flags = q .1 .1 .1 .0;
+        unmet = q .1 .1 .1 .1 .0;
+        levels = q .1 .1 .1 .1 .1 .0;
+        waits = q .1 .1 .1 .1 .1 .1;
       })
-      (λ h. (h .sized, (h .origin, (h .tasks, (h .rates, (h .counts, (h .flags, (h .unmet, (h .levels, h .waits)))))))))
+      (λ h. (h .sized, (h .origin, (h .tasks, (h .slices, (h .charges, (h .counts, (h .flags, (h .unmet, (h .levels, h .waits))))))))))
       (says-and says-sized (says-and says-origin
       (says-and (says-below 25 (λ t. isTaskSound (task s t)) (λ t. SoundTask (task s t)) (λ t. says-task (task s t)))
-      (says-and (says-below 31 (λ l. isRateSound (slice s l) (charge s l)) (λ l. Rate (slice s l) (charge s l)) (λ l. says-rate (slice s l) (charge s l)))
+      (says-and (says-below 31 (λ l. isSlice (slice s l)) (λ l. slice s l ≤ 1000) (λ l. says-le))
+      (says-and
+      (says-below 25 (λ t. isChargeOf (s .levels) (s .numbers .slices) t (task s t)) (λ t. SoundCharge (s .levels) (s .numbers .slices) t (task s t))
+      (λ t. says-charge (s .levels) (s .numbers .slices) t (task s t)))
       (says-and
       (says-below 13 (λ m. isCountSound (count s m) (maximum s m) (firstOf (s .waits) m)) (λ m. Counted (count s m) (maximum s m) (firstOf (s .waits) m))
       (λ m. says-count (count s m) (maximum s m) (firstOf (s .waits) m)))
@@ -98,7 +103,7 @@ module _ (s : State) where
       (λ f. says-flag (attribute s f) (bitsOf s f) (firstOf (s .waits) (flagRow f)) (secondOf (s .waits) (flagRow f))))
       (says-and
       (says-below 25 (λ t. isUnmet (task s t .wait) (bitsOf s (task s t .wait .object))) (λ t. Unmet (task s t .wait) (bitsOf s (task s t .wait .object))) (λ t. says-unmet (task s t .wait) (bitsOf s (task s t .wait .object))))
-      (says-and (says-same (listsExactly (s .levels) 31 (λ t. levelOf (task s t)))) (says-same (listsExactly (s .waits) 21 (λ t. rowOf (task s t))))))))))))
+      (says-and (says-same (listsExactly (s .levels) 31 (λ t. levelOf (task s t)))) (says-same (listsExactly (s .waits) 21 (λ t. rowOf (task s t)))))))))))))
 
   -- ---- the statement from the parts
   module _ (p : Parts s) where
@@ -108,14 +113,11 @@ module _ (s : State) where
     each-task : (t : ℕ) → SoundTask (task s t)
     each-task = everywhere (λ t. SoundTask (task s t)) 25 (λ t h. rw (no-task t h) sound-none) (p .tasks)
 
-    each-rate : (l : ℕ) → Rate (slice s l) (charge s l)
-    each-rate = everywhere (λ l. Rate (slice s l) (charge s l)) 31 past (p .rates)
-      where
-        past : (l : ℕ) → 31 ≤ l → Rate (slice s l) (charge s l)
-        past l h =
-            let e = List·getD-eq-default (s .numbers .slices) 0 {n = l} (omega (arith, p .sized .slices#)) in
-            let f = List·getD-eq-default (s .numbers .charges) 0 {n = l} (omega (arith, p .sized .charges#)) in
-            (omega arith, inr (e, f))
+    each-slice : (l : ℕ) → slice s l ≤ 1000
+    each-slice = everywhere (λ l. slice s l ≤ 1000) 31 (λ l h. omega (arith, List·getD-eq-default (s .numbers .slices) 0 {n = l} (omega (arith, p .sized .slices#)))) (p .slices)
+
+    each-charge : (t : ℕ) → SoundCharge (s .levels) (s .numbers .slices) t (task s t)
+    each-charge = everywhere (λ t. SoundCharge (s .levels) (s .numbers .slices) t (task s t)) 25 (λ t h. inl (ap (λ (x : Task). x .charge) (no-task t h))) (p .charges)
 
     each-count : (m : ℕ) → (count s m ≤ maximum s m) × (maximum s m ≤ 65535)
     each-count = everywhere (λ m. (count s m ≤ maximum s m) × (maximum s m ≤ 65535)) 13 past (λ m h. (p .counts m h .0, p .counts m h .1 .0))
@@ -177,9 +179,10 @@ module _ (s : State) where
       tasks = each-task;
       levels = sound-levels;
       waits = sound-waits;
-      rates = record { slices# = z .slices#; charges# = z .charges#; unused = (o .1, o .2); slices = λ l. each-rate l .0; charges = λ l. each-rate l .1 };
-      semaphores = record { counts# = z .counts#; maxima# = z .maxima#; unused = (o .3, o .4); counts = λ m. each-count m .0; maxima = λ m. each-count m .1; waited = waited };
-      flags = record { attributes# = z .attributes#; bits# = z .bits#; unused = (o .5, o .6); attributes = λ f. each-flag f .0; bits = λ f. each-flag f .1; unmet = unmet; single = single };
+      slices = record { slices# = z .slices#; unused = o .1; slices = each-slice };
+      charges = each-charge;
+      semaphores = record { counts# = z .counts#; maxima# = z .maxima#; unused = (o .2, o .3); counts = λ m. each-count m .0; maxima = λ m. each-count m .1; waited = waited };
+      flags = record { attributes# = z .attributes#; bits# = z .bits#; unused = (o .4, o .5); attributes = λ f. each-flag f .0; bits = λ f. each-flag f .1; unmet = unmet; single = single };
     }
       where
         z : Sized s
@@ -244,16 +247,16 @@ module _ (s : State) where
         tasks# = h .tasks#;
         levels# = (h .levels .sized, h .levels .places);
         waits# = (h .waits .sized, h .waits .places);
-        slices# = h .rates .slices#;
-        charges# = h .rates .charges#;
+        slices# = h .slices .slices#;
         counts# = h .semaphores .counts#;
         maxima# = h .semaphores .maxima#;
         attributes# = h .flags .attributes#;
         bits# = h .flags .bits#;
       };
-      origin = (h .nobody, h .rates .unused .0, h .rates .unused .1, h .semaphores .unused .0, h .semaphores .unused .1, h .flags .unused .0, h .flags .unused .1);
+      origin = (h .nobody, h .slices .unused, h .semaphores .unused .0, h .semaphores .unused .1, h .flags .unused .0, h .flags .unused .1);
       tasks = λ t k. h .tasks t;
-      rates = λ l k. (h .rates .slices l, h .rates .charges l);
+      slices = λ l k. h .slices .slices l;
+      charges = λ t k. h .charges t;
       counts = counted;
       flags = flagged;
       unmet = λ t k. unmet-now t;
