@@ -17,7 +17,8 @@ use Rattle.ways.specs.Kind.{Kind}
 use Rattle.ways.specs.Entry.{Entry}
 use Rattle.ways.proofs.Done.{Made, Done}
 use Rattle.ways.proofs.Done.{Done as Ways}
-use Rattle.soundness.proofs.Changes.{sound-moved, sound-counted, sound-flagged, sound-sliced}
+use Rattle.soundness.proofs.Changes.{sound-moved, sound-counted, sound-flagged}
+use Rattle.soundness.proofs.Charging.{sound-sliced}
 use Rattle.soundness.proofs.Records.{live-made, waiting-live, row-live, sound-ended}
 use Rattle.soundness.proofs.Told.{may-none, waiter-in, first-waits, no-waiter}
 use Rattle.soundness.proofs.Effects.{sound-stopped, sound-deleted, sound-toldFlag, sound-ticked}

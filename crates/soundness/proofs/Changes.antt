@@ -1,5 +1,5 @@
--- Each change of model/specs/State keeps a sound state sound: a task moved, a semaphore counted, a flag set, a level sliced, charged or turned, the time.
--- It rests on the tables' laws in Listed; what a change asks for is a condition on the numbers it stores.
+-- Each change of model/specs/State keeps a sound state sound: a task moved, a semaphore counted, a flag set, the time; Charging has the charges and slices.
+-- It rests on the tables' laws in Listed and Charges; what a change asks for is a condition on the numbers it stores.
 use mathlib.Core.Path.{_≡_, refl, sym, ap, _∙_, subst}
 use mathlib.Core.List.{List}
 use mathlib.Core.Logic.{_⊎_, inl, inr, ⊎-elim}
@@ -8,17 +8,20 @@ use Prim.Native.Nat.{ℕ, _+_, _≤_, _<_}
 use native.Mathlib.Omega.{arith}
 use lib.Dec.{T as So}
 use lib.ListN.{length, getD, set, length-set, List·getD-eq-default}
-use lib.Seq.{getD-set-same, getD-set-other, set-out, set-getD}
+use lib.Seq.{getD-set-same, getD-set-other, set-out}
 use Rattle.model.specs.declared.Task.{Task}
 use Rattle.model.specs.declared.Numbers.{Numbers}
 use Rattle.model.specs.declared.State.{State}
+use Rattle.model.specs.Row.{relisted}
 use Rattle.model.specs.Flag.{isFlagAttributes, isSingle, isMet}
-use Rattle.model.specs.Task.{noTask, levelOf, rowOf}
-use Rattle.model.specs.State.{task, slice, count, maximum, attribute, bitsOf, moved, counted, flagged, sliced, withCharge, rotated, withTime}
-use Rattle.model.specs.Sound.{SoundTask, SoundLevels, SoundSemaphores, SoundFlags, Sound}
+use Rattle.model.specs.Task.{noTask, levelOf, rowOf, settled}
+use Rattle.model.specs.State.{task, count, maximum, attribute, bitsOf, moved, counted, flagged, withTime}
+use Rattle.model.specs.Sound.{SoundTask, SoundSlices, SoundCharge, SoundSemaphores, SoundFlags, Sound}
 use Rattle.laws.proofs.Number.{same?, below?}
-use Rattle.soundness.proofs.Listed.{lists-relisted, lists-turned}
-use Rattle.soundness.proofs.Moved.{task-moved, task-kept}
+use Rattle.laws.proofs.Record.{level-none, level-charge, sound-charge}
+use Rattle.soundness.proofs.Listed.{lists-relisted}
+use Rattle.soundness.proofs.Charges.{charge-none, charge-settled, charge-kept}
+use Rattle.soundness.proofs.Moved.{task-moved, task-kept, tasks-moved}
 
 -- ---- what is read after a store
 -- what holds of the values stored in two tables of one length, and of the old ones, holds of what is read
@@ -31,7 +34,7 @@ stored-both P xs ys i a b j long here else = go (same? j i) (below? i (length xs
     go (inl e) (inr h) = rw (set-out xs i a h, set-out ys i b (omega arith)) else
     go (inr other) h = rw (getD-set-other xs i j a 0 other, getD-set-other ys i j b 0 other) else
 
-stored : (P : ℕ → Type 0) (xs : List ℕ) (i a j : ℕ) → (j ≡ i → P a) → P (getD xs j 0) → P (getD (set xs i a) j 0)
+pub stored : (P : ℕ → Type 0) (xs : List ℕ) (i a j : ℕ) → (j ≡ i → P a) → P (getD xs j 0) → P (getD (set xs i a) j 0)
 stored P xs i a j here else = stored-both (λ x y. P x) xs xs i a a j refl here else
 
 -- ---- who has a key is one of the tasks
@@ -53,31 +56,47 @@ pub record MayWait (s : State) (t : ℕ) (x : Task) : Type 0 where
   pub single : (f u : ℕ) → 1 ≤ f → f ≤ 8 → So (isSingle (attribute s f)) → rowOf x ≡ f + 12 → rowOf (task s u) ≡ f + 12 → u ≡ t
 
 module _ (s : State) (k : Sound s) (t : ℕ) (x : Task) (some : 1 ≤ t) (top : t ≤ 24) where
-  now : task (moved t x s) t ≡ x
+  now : task (moved t x s) t ≡ settled (task s t) x
   now = task-moved s t x (omega (arith, k .tasks#))
 
   kept : (u : ℕ) → (u ≡ t → ⊥) → task (moved t x s) u ≡ task s u
   kept u other = task-kept s t x u (λ e. other (sym e))
 
   -- what holds of its new record, and of the others', holds of each
-  pub task-cases : (P : Task → Type 0) (u : ℕ) → (u ≡ t → P x) → ((u ≡ t → ⊥) → P (task s u)) → P (task (moved t x s) u)
+  pub task-cases : (P : Task → Type 0) (u : ℕ) → (u ≡ t → P (settled (task s t) x)) → ((u ≡ t → ⊥) → P (task s u)) → P (task (moved t x s) u)
   task-cases P u here else = ⊎-elim
       (λ (e : u ≡ t). subst P (sym (ap (task (moved t x s)) e ∙ now)) (here e))
       (λ (other : u ≡ t → ⊥). subst P (sym (kept u other)) (else other))
       (same? u t)
 
+  own : SoundCharge (relisted (s .levels) (levelOf (task s t)) (levelOf x) t) (s .numbers .slices) t (settled (task s t) x)
+  own = charge-settled (s .levels) (s .numbers .slices) (k .slices) t (task s t) x (k .charges t)
+
+  -- anybody's charge, after the move
+  after : (u : ℕ) → SoundCharge (relisted (s .levels) (levelOf (task s t)) (levelOf x) t) (s .numbers .slices) u (task (moved t x s) u)
+  after u = task-cases (SoundCharge (relisted (s .levels) (levelOf (task s t)) (levelOf x) t) (s .numbers .slices) u) u
+      (λ e. rw e own)
+      (λ other. charge-kept (s .levels) (s .numbers .slices) (k .slices) t (task s t) x u (task s u) other (λ h. task-in levelOf level-none s k u h .0) (k .charges u))
+
   module _ (sound : SoundTask x) (may : MayWait s t x) where
+    -- one not created has no level, and so no charge
+    bare : x .base ≡ 0 → settled (task s t) x .charge ≡ 0
+    bare none =
+        charge-none (relisted (s .levels) (levelOf (task s t)) (levelOf x) t) (s .numbers .slices) (k .slices) t (settled (task s t) x) own
+        (level-charge x (settled (task s t) x .charge) ∙ ap levelOf (sound .blank none) ∙ level-none)
+
     pub sound-moved : Sound (moved t x s)
     unfolding moved levelOf rowOf
     sound-moved = record {
-      tasks# = length-set (s .tasks) t x ∙ k .tasks#;
+      tasks# = tasks-moved s t x ∙ k .tasks#;
       nobody = kept 0 (λ e. omega arith) ∙ k .nobody;
-      tasks = λ u. task-cases SoundTask u (λ e. sound) (λ other. k .tasks u);
+      tasks = λ u. task-cases SoundTask u (λ e. sound-charge x (settled (task s t) x .charge) sound bare) (λ other. k .tasks u);
       levels = lists-relisted (s .levels) 31 (λ u. levelOf (task s u)) (k .levels) t (levelOf x) some top (λ u h. ap levelOf (no-task s k u h))
           (λ u. levelOf (task (moved t x s) u)) (ap levelOf now) (λ u other. ap levelOf (kept u other));
       waits = lists-relisted (s .waits) 21 (λ u. rowOf (task s u)) (k .waits) t (rowOf x) some top (λ u h. ap rowOf (no-task s k u h))
           (λ u. rowOf (task (moved t x s) u)) (ap rowOf now) (λ u other. ap rowOf (kept u other));
-      rates = k .rates;
+      slices = k .slices;
+      charges = after;
       semaphores = record {
         counts# = a .counts#;
         maxima# = a .maxima#;
@@ -106,15 +125,16 @@ module _ (s : State) (k : Sound s) (t : ℕ) (x : Task) (some : 1 ≤ t) (top : 
         b = k .flags
 
 -- ---- other numbers, which are sound by themselves
-renumbered : (s : State) (n : Numbers) → Sound s → SoundLevels (n .slices) (n .charges) → SoundSemaphores (s .tasks) (n .counts) (n .maxima)
+pub renumbered : (s : State) (n : Numbers) → Sound s → SoundSlices (n .slices) → ((t : ℕ) → SoundCharge (s .levels) (n .slices) t (task s t)) → SoundSemaphores (s .tasks) (n .counts) (n .maxima)
     → SoundFlags (s .tasks) (n .attributes) (n .bits) → Sound (record { tasks = s .tasks; levels = s .levels; waits = s .waits; numbers = n })
-renumbered s n k rates semaphores flags = record {
+renumbered s n k slices charges semaphores flags = record {
   tasks# = k .tasks#;
   nobody = k .nobody;
   tasks = k .tasks;
   levels = k .levels;
   waits = k .waits;
-  rates = rates;
+  slices = slices;
+  charges = charges;
   semaphores = semaphores;
   flags = flags;
 }
@@ -122,7 +142,7 @@ renumbered s n k rates semaphores flags = record {
 -- ---- a semaphore's numbers
 pub sound-counted : (s : State) (m n v : ℕ) → Sound s → 1 ≤ m → n ≤ v → v ≤ 65535 → ((t : ℕ) → rowOf (task s t) ≡ m → (n ≡ 0) × (1 ≤ v)) → Sound (counted m n v s)
 unfolding counted
-sound-counted s m n v k some low top free = renumbered s (counted m n v s .numbers) k (k .rates) (record {
+sound-counted s m n v k some low top free = renumbered s (counted m n v s .numbers) k (k .slices) (k .charges) (record {
   counts# = length-set ns m n ∙ a .counts#;
   maxima# = length-set vs m v ∙ a .maxima#;
   unused = (stored (λ b. b ≡ 0) ns m n 0 (λ e. absurd (omega arith)) (a .unused .0), stored (λ b. b ≡ 0) vs m v 0 (λ e. absurd (omega arith)) (a .unused .1));
@@ -153,7 +173,7 @@ pub record FlagFits (s : State) (f a b : ℕ) : Type 0 where
 
 pub sound-flagged : (s : State) (f a b : ℕ) → Sound s → 1 ≤ f → FlagFits s f a b → Sound (flagged f a b s)
 unfolding flagged
-sound-flagged s f a b k some fits = renumbered s (flagged f a b s .numbers) k (k .rates) (k .semaphores) (record {
+sound-flagged s f a b k some fits = renumbered s (flagged f a b s .numbers) k (k .slices) (k .charges) (k .semaphores) (record {
   attributes# = length-set es f a ∙ g .attributes#;
   bits# = length-set bs f b ∙ g .bits#;
   unused = (stored (λ c. c ≡ 0) es f a 0 (λ e. absurd (omega arith)) (g .unused .0), stored (λ c. c ≡ 0) bs f b 0 (λ e. absurd (omega arith)) (g .unused .1));
@@ -177,49 +197,6 @@ sound-flagged s f a b k some fits = renumbered s (flagged f a b s .numbers) k (k
     same : length es ≡ length bs
     same = g .attributes# ∙ sym (g .bits#)
 
--- ---- a level's slice and charge
--- slices vs with v and charges ns with n at place l
-rated : (vs ns : List ℕ) (l v n : ℕ) → SoundLevels vs ns → 1 ≤ l → v ≤ 1000 → (n < v) ⊎ ((v ≡ 0) × (n ≡ 0)) → SoundLevels (set vs l v) (set ns l n)
-rated vs ns l v n k some top low = record {
-  slices# = length-set vs l v ∙ k .slices#;
-  charges# = length-set ns l n ∙ k .charges#;
-  unused = (stored (λ a. a ≡ 0) vs l v 0 (λ e. absurd (omega arith)) (k .unused .0), stored (λ a. a ≡ 0) ns l n 0 (λ e. absurd (omega arith)) (k .unused .1));
-  slices = λ i. stored (λ b. b ≤ 1000) vs l v i (λ e. top) (k .slices i);
-  charges = λ i. stored-both (λ a b. (b < a) ⊎ ((a ≡ 0) × (b ≡ 0))) vs ns l v n i (k .slices# ∙ sym (k .charges#)) (λ e. low) (k .charges i);
-}
-
-pub sound-sliced : (s : State) (l v : ℕ) → Sound s → 1 ≤ l → v ≤ 1000 → Sound (sliced l v s)
-unfolding sliced
-sound-sliced s l v k some top = renumbered s (sliced l v s .numbers) k (rated (s .numbers .slices) (s .numbers .charges) l v 0 (k .rates) some top cleared) (k .semaphores) (k .flags)
-  where
-    cleared : (0 < v) ⊎ ((v ≡ 0) × (_≡_ {A = ℕ} 0 0))
-    cleared = ⊎-elim (λ (h : 0 < v). inl h) (λ (h : v ≤ 0). inr (omega arith, refl)) (below? 0 v)
-
-pub sound-withCharge : (s : State) (l n : ℕ) → Sound s → n < slice s l → Sound (withCharge l n s)
-sound-withCharge s l n k low = renumbered s (withCharge l n s .numbers) k charged (k .semaphores) (k .flags)
-  where
-    vs : List ℕ
-    vs = s .numbers .slices
-
-    some : 1 ≤ l
-    some = let n : l ≡ 0 → ⊥ = λ e. let none : slice s l ≡ 0 = rw e (k .rates .unused .0) in omega arith in omega arith
-
-    charged : SoundLevels vs (set (s .numbers .charges) l n)
-    charged = rw (set-getD vs l 0) at (rated vs (s .numbers .charges) l (slice s l) n (k .rates) some (k .rates .slices l) (inl low))
-
+-- ---- the time
 pub sound-withTime : (s : State) (n : ℕ) → Sound s → Sound (withTime n s)
-sound-withTime s n k = renumbered s (withTime n s .numbers) k (k .rates) (k .semaphores) (k .flags)
-
--- ---- a level's first becomes its last
-pub sound-rotated : (s : State) (l : ℕ) → Sound s → Sound (rotated l s)
-unfolding rotated
-sound-rotated s l k = record {
-  tasks# = k .tasks#;
-  nobody = k .nobody;
-  tasks = k .tasks;
-  levels = lists-turned (s .levels) 31 (λ t. levelOf (task s t)) l (k .levels);
-  waits = k .waits;
-  rates = k .rates;
-  semaphores = k .semaphores;
-  flags = k .flags;
-}
+sound-withTime s n k = renumbered s (withTime n s .numbers) k (k .slices) (k .charges) (k .semaphores) (k .flags)

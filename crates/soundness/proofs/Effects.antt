@@ -2,24 +2,27 @@
 -- It rests on the changes of Changes, the records of Records and the queues of Told; the tick goes by induction over the tasks it moves.
 use mathlib.Core.Path.{_≡_, refl}
 use mathlib.Core.Bool.{Bool, true, false, cond}
-use mathlib.Core.Logic.{⊎-elim}
+use mathlib.Core.Logic.{inl, inr, ⊎-elim}
 use Prim.Native.Nat.{ℕ, zero, suc, _+_, _≤_, _%_, _^_}
 use native.Mathlib.Omega.{arith}
 use lib.Dec.{T as So, eqb, ltb}
-use borrow.Author.Tests.{eqb-false, ltb-true}
+use borrow.Author.Tests.{eq-eqb, eqb-false, ltb-true}
 use Rattle.model.specs.declared.Task.{Task}
 use Rattle.model.specs.declared.State.{State}
 use Rattle.model.specs.declared.News.{News}
 use Rattle.model.specs.declared.News.the-variants.{Deleted}
+use Rattle.model.specs.Row.{firstOf}
 use Rattle.model.specs.Flag.{isFlagAttributes, isSingle, isMet}
-use Rattle.model.specs.Task.{dormant, activated, aged, rowOf}
-use Rattle.model.specs.State.{task, slice, charge, attribute, time, waiters, running, moved, withCharge, rotated, withTime}
-use Rattle.model.specs.Effect.{stopped, toldAll, deleted, toldFlag, chargedLevel, charged, lapsed, ticked}
+use Rattle.model.specs.Task.{dormant, activated, aged, levelOf, rowOf}
+use Rattle.model.specs.State.{task, slice, attribute, time, waiters, running, moved, recharged, rotated, withTime}
+use Rattle.model.specs.Effect.{stopped, toldAll, deleted, toldFlag, chargedIn, charged, lapsed, ticked}
 use Rattle.model.specs.Sound.{SoundTask, Sound}
-use Rattle.laws.proofs.Record.{flag-row}
-use Rattle.soundness.proofs.Changes.{sound-moved, sound-counted, sound-flagged, sound-withCharge, sound-rotated, sound-withTime}
+use Rattle.laws.proofs.Record.{level-charge, flag-row}
+use Rattle.soundness.proofs.Changes.{sound-moved, sound-counted, sound-flagged, sound-withTime}
+use Rattle.soundness.proofs.Charging.{task-recharged, sound-recharged, sound-rotated}
 use Rattle.soundness.proofs.Records.{Stays, sound-dormant, sound-activated, sound-aged, aged-row}
 use Rattle.soundness.proofs.Moved.{numbers-told}
+use Rattle.soundness.proofs.Running.{runner}
 use Rattle.soundness.proofs.Told.{may-none, may-same, waiter-in, Told, told-row}
 
 -- attributes a and bits b fit flag f once those who wait on it were told w
@@ -77,25 +80,26 @@ sound-toldFlag s k f w a b low top fits = rw (flag-row f low top) (sound-flagged
     z = told-row w s k (f + 12) (omega arith) (omega arith)
 
 -- ---- a tick passes
-sound-chargedLevel : (s : State) → Sound s → (l : ℕ) → Sound (chargedLevel l s)
-unfolding chargedLevel
-sound-chargedLevel s k l = go (eqb (slice s l) 0) (ltb (charge s l + 1) (slice s l)) refl refl
+-- the first of a level is charged
+sound-chargedIn : (s : State) → Sound s → (l t : ℕ) → levelOf (task s t) ≡ l → firstOf (s .levels) l ≡ t → Sound (chargedIn l t s)
+unfolding chargedIn
+sound-chargedIn s k l t e f = go (eqb (slice s l) 0) (ltb (task s t .charge + 1) (slice s l)) refl
   where
-    go : (a b : Bool) → eqb (slice s l) 0 ≡ a → ltb (charge s l + 1) (slice s l) ≡ b
-        → Sound (cond a s (cond b (withCharge l (charge s l + 1) s) (rotated l (withCharge l 0 s))))
-    go true b e f = k
-    go false true e f = sound-withCharge s l (charge s l + 1) k (ltb-true (charge s l + 1) (slice s l) f)
-    go false false e f =
-        let some : slice s l ≡ 0 → ⊥ = eqb-false (slice s l) 0 e in
-        sound-rotated (withCharge l 0 s) l (sound-withCharge s l 0 k (omega arith))
+    clear : task (recharged t 0 s) t .charge ≡ 0
+    clear = rw (task-recharged s k t 0 (inl refl) t, eq-eqb t t refl)
 
-sound-charged : (s : State) → Sound s → (run : ℕ) → Sound (charged run s)
+    go : (a b : Bool) → ltb (task s t .charge + 1) (slice s l) ≡ b → Sound (cond a s (cond b (recharged t (task s t .charge + 1) s) (rotated l (recharged t 0 s))))
+    go true b g = k
+    go false true g = sound-recharged s k t (task s t .charge + 1) (rw (level-charge (task s t) (task s t .charge + 1), e) (inr (f, ltb-true (task s t .charge + 1) (slice s l) g)))
+    go false false g = sound-rotated (recharged t 0 s) l (sound-recharged s k t 0 (inl refl)) (unfold recharged in rw f clear)
+
+sound-charged : (s : State) → Sound s → (run : ℕ) → (1 ≤ run → (levelOf (task s run) ≡ task s run .priority) × (firstOf (s .levels) (task s run .priority) ≡ run)) → Sound (charged run s)
 unfolding charged
-sound-charged s k run = go (eqb run 0)
+sound-charged s k run first = go (eqb run 0) refl
   where
-    go : (b : Bool) → Sound (cond b s (chargedLevel (task s run .priority) s))
-    go true = k
-    go false = sound-chargedLevel s k (task s run .priority)
+    go : (b : Bool) → eqb run 0 ≡ b → Sound (cond b s (chargedIn (task s run .priority) run s))
+    go true e = k
+    go false e = let some : run ≡ 0 → ⊥ = eqb-false run 0 e in let r = first (omega arith) in sound-chargedIn s k (task s run .priority) run (r .0) (r .1)
 
 sound-lapsed : (n t : ℕ) (s : State) → Sound s → 1 ≤ t → n + t ≤ 25 → Sound (lapsed n t s)
 unfolding lapsed
@@ -110,5 +114,5 @@ pub sound-ticked : (s : State) → Sound s → Sound (ticked s)
 unfolding ticked
 sound-ticked s k =
     sound-lapsed 24 1 (charged (running s) (withTime ((time s + 1) % 2 ^ 32) s))
-    (sound-charged (withTime ((time s + 1) % 2 ^ 32) s) (sound-withTime s ((time s + 1) % 2 ^ 32) k) (running s))
+    (sound-charged (withTime ((time s + 1) % 2 ^ 32) s) (sound-withTime s ((time s + 1) % 2 ^ 32) k) (running s) (λ some. let r = runner s k some in (r .level, r .first)))
     (omega arith) (omega arith)

@@ -1,12 +1,13 @@
 -- The fresh state is sound: its tables hold nothing but zeros, so every queue is empty and no task has a key.
 -- It rests on `fresh` of model/specs/State and the laws of rows of zeros.
 use mathlib.Core.Path.{_≡_, refl, sym, ap, _∙_, subst}
-use mathlib.Core.Logic.{inr, ⊎-elim}
+use mathlib.Core.Logic.{inl, ⊎-elim}
 use Prim.Native.Nat.{ℕ, _≤_, _<_}
 use native.Mathlib.Omega.{arith}
 use lib.Dec.{T as So}
 use lib.ListN.{length, getD, replicate, length-replicate, getD-replicate, List·getD-eq-default}
 use Rattle.model.specs.declared.Queue.{Queue}
+use Rattle.model.specs.declared.Task.{Task}
 use Rattle.model.specs.Row.{noQueue, row}
 use Rattle.model.specs.Flag.{isFlagAttributes}
 use Rattle.model.specs.Task.{noTask, levelOf, rowOf}
@@ -50,7 +51,8 @@ sound-fresh = record {
   tasks = λ t. subst SoundTask (sym (reads 25 noTask t)) sound-none;
   levels = lists-nobody 31 (λ t. levelOf (task fresh t)) (λ t. ap levelOf (reads 25 noTask t));
   waits = lists-nobody 21 (λ t. rowOf (task fresh t)) no-row;
-  rates = record { slices# = refl; charges# = refl; unused = (refl, refl); slices = λ l. omega (arith, none 31 l); charges = λ l. inr (none 31 l, none 31 l) };
+  slices = record { slices# = refl; unused = refl; slices = λ l. omega (arith, none 31 l) };
+  charges = λ t. inl (ap (λ (x : Task). x .charge) (reads 25 noTask t));
   semaphores = record {
     counts# = refl;
     maxima# = refl;

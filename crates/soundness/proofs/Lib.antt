@@ -1,10 +1,12 @@
 pub mod Listed
 pub mod Moved
+pub mod Charges
 pub mod Changes
+pub mod Charging
 pub mod Records
 pub mod Told
-pub mod Effects
 pub mod Running
+pub mod Effects
 pub mod Changed
 pub mod Accepted
 pub mod Fresh

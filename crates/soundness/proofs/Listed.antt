@@ -9,11 +9,11 @@ use lib.Dec.{T as So}
 use lib.ListN.{length}
 use borrow.Author.Tests.{eq-eqb, ne-eqb}
 use Rattle.model.specs.declared.Queue.{Queue}
-use Rattle.model.specs.Row.{joined, left, turned, row, firstOf, withRow, relisted}
+use Rattle.model.specs.Row.{first, joined, left, turned, row, firstOf, withRow, relisted}
 use Rattle.model.specs.Test.{one, occ, padded, isListed}
 use Rattle.model.specs.Sound.{Lists}
 use Rattle.laws.proofs.Number.{same?, below?}
-use Rattle.laws.proofs.Row.{length-joined, length-left, length-turned}
+use Rattle.laws.proofs.Row.{first-left, first-joined, length-joined, length-left, length-turned}
 use Rattle.laws.proofs.Table.{length-withRow, row-withRow}
 use Rattle.laws.proofs.Relisted.{relisted-kept, length-relisted, row-relisted-past, row-relisted-from, row-relisted-to, row-relisted-other, row-relisted-zero}
 use Rattle.laws.proofs.Occ.{one-le, occ-left-same, occ-left-other, occ-joined-same, occ-joined-other, occ-turned, first-in}
@@ -72,6 +72,12 @@ module _ (P : List ℕ → Type 0) (ls : List Queue) (f g t l : ℕ) where
       go (inr apart) (inr low) (inl top) (inr not-f) (inr not-g) =
           rw (row-relisted-other ls f g t l not-f not-g) (stays (λ _. listed-none l f (λ _ e. not-f (sym e)) ∙ sym (listed-none l g (λ _ e. not-g (sym e)))))
 
+-- who stands first in a row stands first there still, unless it is the one that moves
+pub first-relisted : (ls : List Queue) (f g t l u : ℕ) → (u ≡ t → ⊥) → 1 ≤ u → firstOf ls l ≡ u → firstOf (relisted ls f g t) l ≡ u
+first-relisted ls f g t l u other some e = row-cases (λ q. first q ≡ u) ls f g t l (λ _. e)
+    (λ _ _ z. first-left (row ls f) t u other (rw z at e))
+    (λ _ _ z. first-joined (row ls g) t u some (rw z at e))
+
 module _ (ls : List Queue) (n : ℕ) (key : ℕ → ℕ) (k : Lists ls n key) (t g : ℕ) (some : 1 ≤ t) (top : t ≤ 24) (far : (u : ℕ) → 24 < u → key u ≡ 0) where
   -- where it now stands
   stands : (l : ℕ) → l < n → occ t (row (relisted ls (key t) g t) l) ≡ one (isListed l g)
@@ -106,6 +112,10 @@ module _ (ls : List Queue) (n : ℕ) (key : ℕ → ℕ) (k : Lists ls n key) (t
       kept l u low other = row-cases (λ q. occ u q ≡ occ u (row ls l)) ls (key t) g t l (λ _. refl)
           (λ _ _ e. rw e (occ-left-other (row ls (key t)) t u low other))
           (λ _ _ e. rw e (occ-joined-other (row ls g) t u low other))
+
+-- ---- the same keys
+pub lists-same : (ls : List Queue) (n : ℕ) (key key′ : ℕ → ℕ) → ((t : ℕ) → key′ t ≡ key t) → Lists ls n key → Lists ls n key′
+lists-same ls n key key′ same k = record { sized = k .sized; places = k .places; exactly = λ l t h some. rw (same t) (k .exactly l t h some); ends = k .ends }
 
 -- ---- the first of a row becomes its last
 pub lists-turned : (ls : List Queue) (n : ℕ) (key : ℕ → ℕ) (l : ℕ) → Lists ls n key → Lists (withRow ls l (turned (row ls l))) n key

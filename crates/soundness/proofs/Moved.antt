@@ -1,4 +1,4 @@
--- What a move leaves as it is: the other records, how many there are, and the numbers; these stay at a stop, news and the fall of timeouts too.
+-- What a move makes of a record, and what it leaves as it is: the other records, how many there are, and the numbers; these stay at a stop, news and the fall of timeouts too.
 -- It goes by `moved` of model/specs/State and the effects of model/specs/Effect that are made of it, in any state.
 use mathlib.Core.Path.{_≡_, refl, sym}
 use mathlib.Core.Bool.{Bool, true, false, cond}
@@ -10,22 +10,22 @@ use lib.Seq.{getD-set-same, getD-set-other}
 use Rattle.model.specs.declared.Task.{Task}
 use Rattle.model.specs.declared.State.{State}
 use Rattle.model.specs.declared.News.{News}
-use Rattle.model.specs.Task.{noTask, dormant, activated, aged, told}
+use Rattle.model.specs.Task.{noTask, dormant, activated, settled, aged, told}
 use Rattle.model.specs.State.{task, moved}
 use Rattle.model.specs.Effect.{stopped, toldAll, lapsed}
 
 -- ---- the records
 pub task-kept : (s : State) (u : ℕ) (x : Task) (t : ℕ) → (u ≡ t → ⊥) → task (moved u x s) t ≡ task s t
 unfolding moved
-task-kept s u x t apart = getD-set-other (s .tasks) u t x noTask (λ e. apart (sym e))
+task-kept s u x t apart = getD-set-other (s .tasks) u t (settled (task s u) x) noTask (λ e. apart (sym e))
 
-pub task-moved : (s : State) (t : ℕ) (x : Task) → t < length (s .tasks) → task (moved t x s) t ≡ x
+pub task-moved : (s : State) (t : ℕ) (x : Task) → t < length (s .tasks) → task (moved t x s) t ≡ settled (task s t) x
 unfolding moved
-task-moved s t x h = getD-set-same (s .tasks) t x noTask h
+task-moved s t x h = getD-set-same (s .tasks) t (settled (task s t) x) noTask h
 
 pub tasks-moved : (s : State) (u : ℕ) (x : Task) → length (moved u x s .tasks) ≡ length (s .tasks)
 unfolding moved
-tasks-moved s u x = length-set (s .tasks) u x
+tasks-moved s u x = length-set (s .tasks) u (settled (task s u) x)
 
 -- ---- the numbers
 pub numbers-moved : (s : State) (u : ℕ) (x : Task) → moved u x s .numbers ≡ s .numbers

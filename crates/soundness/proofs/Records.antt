@@ -13,7 +13,7 @@ use Rattle.model.specs.declared.News.{News}
 use Rattle.model.specs.declared.News.the-variants.{Deleted, Bits}
 use Rattle.model.specs.Flag.{isMet}
 use Rattle.model.specs.Task.{nothing, aSleep, served, dlt, isDormant, isSuspended, isWaiting, isAsleep, isRunnable, isTimed, endless, levelOf, rowOf, ranOut, aged, told}
-use Rattle.model.specs.Task.{asleep, onSemaphore, onFlag, dormant, activated, created, withPriority, withSuspended, withWakeups, withActivations, withRemaining, waiting, ended}
+use Rattle.model.specs.Task.{asleep, onSemaphore, onFlag, dormant, activated, created, withPriority, withSuspended, withWakeups, withActivations, withCharge, withRemaining, waiting, ended}
 use Rattle.model.specs.Test.{isWaitCode}
 use Rattle.model.specs.Sound.{SoundTask}
 use Rattle.laws.proofs.Padded.{both}
@@ -41,6 +41,14 @@ level-live x h = go (isRunnable x) h (both (not (isDormant x)) (not (isSuspended
         → (1 ≤ x .active) × (x .wait .kind ≡ nothing)
     go true h r = (some-of (x .active) .yields (r tt .0), none-of (x .wait .kind) .yields (both (not (isSuspended x)) (not (isWaiting x)) (r tt .1) .1))
     go false h r = absurd (omega arith)
+
+pub level-priority : (x : Task) → 1 ≤ levelOf x → levelOf x ≡ x .priority
+unfolding levelOf
+level-priority x h = go (isRunnable x) h
+  where
+    go : (b : Bool) → 1 ≤ cond b (x .priority) 0 → cond b (x .priority) 0 ≡ x .priority
+    go true h = refl
+    go false h = absurd (omega arith)
 
 pub row-live : (x : Task) → SoundTask x → 1 ≤ rowOf x → 1 ≤ x .active
 row-live x k h = waiting-live x k (λ z. omega (arith, row-waits x h))
@@ -128,6 +136,10 @@ module _ (x : Task) (k : SoundTask x) (live : 1 ≤ x .active) where
 abbrev pub Stays : News → Task → Type 0
 Stays Deleted x = ⊥
 Stays (Bits b) x = isMet (x .wait .pattern) (x .wait .mode) b ≡ false
+
+pub stays-charge : (w : News) (x : Task) (n : ℕ) → Stays w x → Stays w (withCharge x n)
+stays-charge Deleted x n h = h
+stays-charge (Bits b) x n h = h
 
 pub told-stays : (w : News) (x : Task) → (rowOf (told w x) ≡ 0) ⊎ (Stays w x × (told w x ≡ x))
 unfolding told rowOf

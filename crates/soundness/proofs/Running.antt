@@ -1,6 +1,6 @@
 -- Who runs: the first of the first row that is not empty, found row by row, and in a sound state a live task that waits for nothing.
 -- It rests on `bestFrom` of model/specs/Row and the tables' laws in Listed.
-use mathlib.Core.Path.{_≡_, refl}
+use mathlib.Core.Path.{_≡_}
 use mathlib.Core.List.{List, [], _∷_}
 use mathlib.Core.Logic.{⊎-elim}
 use Prim.Native.Nat.{ℕ, zero, suc, _+_, _≤_, _<_}
@@ -16,9 +16,10 @@ use Rattle.model.specs.State.{task, running}
 use Rattle.model.specs.Test.{zeros, listsOnly, padded}
 use Rattle.model.specs.Sound.{Sound}
 use Rattle.laws.proofs.Number.{same?}
+use Rattle.laws.proofs.Record.{level-none}
 use Rattle.soundness.proofs.Listed.{key-first}
 use Rattle.soundness.proofs.Changes.{task-in}
-use Rattle.soundness.proofs.Records.{level-live}
+use Rattle.soundness.proofs.Records.{level-live, level-priority}
 
 -- the best of n rows from row l on: nobody, or who stands first in row i
 pub data Best (ls : List Queue) (n l : ℕ) : ℕ → Type 0 where
@@ -58,18 +59,24 @@ pub record Runner (s : State) : Type 0 where
   pub top : running s ≤ 24
   pub live : 1 ≤ task s (running s) .active
   pub idle : task s (running s) .wait .kind ≡ nothing
+  -- it is first of the level of its priority
+  pub level : levelOf (task s (running s)) ≡ task s (running s) .priority
+  pub first : firstOf (s .levels) (task s (running s) .priority) ≡ running s
 
 pub runner : (s : State) → Sound s → 1 ≤ running s → Runner s
-unfolding running levelOf
+unfolding running
 runner s k some = go (best 30 1 (s .levels)) some
   where
-    found : {t : ℕ} → Best (s .levels) 30 1 t → 1 ≤ t → 1 ≤ levelOf (task s t)
+    found : {t : ℕ} → Best (s .levels) 30 1 t → 1 ≤ t → (1 ≤ levelOf (task s t)) × (firstOf (s .levels) (levelOf (task s t)) ≡ t)
     found (nobody none) h = absurd (omega arith)
-    found (stands i low top some better) h = omega (arith, key-first (s .levels) 31 (λ t. levelOf (task s t)) (k .levels) i (omega arith) some)
+    found (stands i low top some better) h =
+        let z = key-first (s .levels) 31 (λ t. levelOf (task s t)) (k .levels) i (omega arith) some in
+        (omega arith, rw (z .1))
 
     go : Best (s .levels) 30 1 (running s) → 1 ≤ running s → Runner s
     go b h =
         let l = found b h in
-        let i = task-in levelOf refl s k (running s) l in
-        let r = level-live (task s (running s)) l in
-        record { low = i .0; top = i .1; live = r .0; idle = r .1 }
+        let i = task-in levelOf level-none s k (running s) (l .0) in
+        let r = level-live (task s (running s)) (l .0) in
+        let p = level-priority (task s (running s)) (l .0) in
+        record { low = i .0; top = i .1; live = r .0; idle = r .1; level = p; first = rw p at (l .1) }

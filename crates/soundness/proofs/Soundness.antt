@@ -1,5 +1,5 @@
--- The theorems of specs/Statements: sound states stay sound, refused calls change nothing, and the first of the best level runs.
--- They go by the ways of ways (Accepted), the fresh state (Fresh) and the search for the best level (Running).
+-- The theorems of specs/Statements: sound states stay sound, refused calls change nothing, the first of the best level runs, and a slice clears.
+-- They go by the ways of ways (Accepted), the fresh state (Fresh), the search for the best level (Running) and the charges (Charging).
 use mathlib.Core.Path.{_≡_, refl}
 use mathlib.Core.Bool.{Bool, true, false, cond}
 use mathlib.Core.List.{[], _∷_}
@@ -11,7 +11,7 @@ use Rattle.model.specs.declared.Plan.{Plan}
 use Rattle.model.specs.declared.Answer.{Answer}
 use Rattle.model.specs.declared.Code.the-variants.{Unsound}
 use Rattle.model.specs.Row.{firstOf}
-use Rattle.model.specs.State.{running}
+use Rattle.model.specs.State.{running, sliced}
 use Rattle.model.specs.Code.{isRefusal}
 use Rattle.model.specs.Effect.{carried}
 use Rattle.model.specs.Call.{step, call}
@@ -22,10 +22,11 @@ use Rattle.ways.specs.Entry.{Entry}
 use Rattle.ways.proofs.Done.{Way, refuses, accepts}
 use Rattle.ways.proofs.Ways.{way}
 use Rattle.soundness.specs.Statements
-use Rattle.soundness.specs.Statements.{FreshIsSound, SoundStaysSound, CallStaysSound, reached, ReachedIsSound, RefusedIsUnchanged, RefusedCallIsUnchanged, Runs, RunsFirst, AnswerRunsFirst}
+use Rattle.soundness.specs.Statements.{FreshIsSound, SoundStaysSound, CallStaysSound, reached, ReachedIsSound, RefusedIsUnchanged, RefusedCallIsUnchanged, Runs, RunsFirst, AnswerRunsFirst, SliceClears}
 use Rattle.soundness.proofs.Running.{Best, nobody, stands, best, row-empty}
 use Rattle.soundness.proofs.Accepted.{sound-done}
 use Rattle.soundness.proofs.Fresh.{sound-fresh}
+use Rattle.soundness.proofs.Charging.{level-cleared}
 
 -- ---- sound states
 pub fresh-is-sound : FreshIsSound
@@ -90,3 +91,8 @@ runs-first s k = go (best 30 1 (s .levels))
 pub answer-runs-first : AnswerRunsFirst
 unfolding step
 answer-runs-first s c a k = runs-first (step s c a .state) (sound-stays-sound s c a k)
+
+-- ---- charges
+pub slice-clears : SliceClears
+unfolding sliced
+slice-clears s l v t k e = level-cleared s l v k t e

@@ -1,4 +1,5 @@
--- What is proved of every call in every state: sound states stay sound, refused calls change nothing, and the first of the best level runs.
+-- What is proved of every call in every state: sound states stay sound, refused calls change nothing, and the first of the best level runs;
+-- and that a slice that is set clears the charges of its level.
 -- They speak of `Sound`, `step` and `call` of model, and are proved in proofs/Soundness.
 use mathlib.Core.Path.{_≡_}
 use mathlib.Core.Bool.{true}
@@ -9,7 +10,8 @@ use Rattle.model.specs.declared.State.{State}
 use Rattle.model.specs.declared.Context.{Context}
 use Rattle.model.specs.declared.Call.{Call}
 use Rattle.model.specs.Row.{firstOf}
-use Rattle.model.specs.State.{fresh, level, running}
+use Rattle.model.specs.State.{fresh, task, level, running, sliced}
+use Rattle.model.specs.Task.{levelOf}
 use Rattle.model.specs.Code.{isRefusal}
 use Rattle.model.specs.Call.{step, call}
 use Rattle.model.specs.Test.{zeros}
@@ -56,3 +58,8 @@ RunsFirst = (s : State) → Sound s → Runs s (running s)
 -- the task that an answer names runs in the state that it returns
 abbrev pub AnswerRunsFirst : Type 0
 AnswerRunsFirst = (s : State) (c : Context) (a : Call) → Sound s → Runs (step s c a .state) (step s c a .running)
+
+-- ---- charges
+-- a slice that is set leaves no task of its level a charge, although only the first's is cleared
+abbrev pub SliceClears : Type 0
+SliceClears = (s : State) (l v t : ℕ) → Sound s → levelOf (task (sliced l v s) t) ≡ l → task (sliced l v s) t .charge ≡ 0
