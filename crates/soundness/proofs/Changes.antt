@@ -1,5 +1,5 @@
 -- Each change of model/specs/State keeps a sound state sound: a task moved, a semaphore counted, a flag set, the time; Charging has the charges and slices.
--- It rests on the tables' laws in Listed and Charges; what a change asks for is a condition on the numbers it stores.
+-- It rests on the tables' laws in Listed and on Orderly for the levels; what a change asks for is a condition on the numbers it stores.
 use mathlib.Core.Path.{_≡_, refl, sym, ap, _∙_, subst}
 use mathlib.Core.List.{List}
 use mathlib.Core.Logic.{_⊎_, inl, inr, ⊎-elim}
@@ -12,7 +12,6 @@ use lib.Seq.{getD-set-same, getD-set-other, set-out}
 use Rattle.model.specs.declared.Task.{Task}
 use Rattle.model.specs.declared.Numbers.{Numbers}
 use Rattle.model.specs.declared.State.{State}
-use Rattle.model.specs.Row.{relisted}
 use Rattle.model.specs.Flag.{isFlagAttributes, isSingle, isMet}
 use Rattle.model.specs.Task.{noTask, levelOf, rowOf, settled}
 use Rattle.model.specs.State.{task, count, maximum, attribute, bitsOf, moved, counted, flagged, withTime}
@@ -20,8 +19,8 @@ use Rattle.model.specs.Sound.{SoundTask, SoundSlices, SoundCharge, SoundSemapho
 use Rattle.laws.proofs.Number.{same?, below?}
 use Rattle.laws.proofs.Record.{level-none, level-charge, sound-charge}
 use Rattle.soundness.proofs.Listed.{lists-relisted}
-use Rattle.soundness.proofs.Charges.{charge-none, charge-settled, charge-kept}
-use Rattle.soundness.proofs.Moved.{task-moved, task-kept, tasks-moved}
+use Rattle.soundness.proofs.Charges.{charge-none}
+use Rattle.soundness.proofs.Orderly.{Orderly, sound-orderly, no-task, task-now, task-else, task-cases, orderly-moved}
 
 -- ---- what is read after a store
 -- what holds of the values stored in two tables of one length, and of the old ones, holds of what is read
@@ -37,16 +36,6 @@ stored-both P xs ys i a b j long here else = go (same? j i) (below? i (length xs
 pub stored : (P : ℕ → Type 0) (xs : List ℕ) (i a j : ℕ) → (j ≡ i → P a) → P (getD xs j 0) → P (getD (set xs i a) j 0)
 stored P xs i a j here else = stored-both (λ x y. P x) xs xs i a a j refl here else
 
--- ---- who has a key is one of the tasks
-pub no-task : (s : State) → Sound s → (t : ℕ) → 24 < t → task s t ≡ noTask
-no-task s k t h = List·getD-eq-default (s .tasks) noTask (omega (arith, k .tasks#))
-
-pub task-in : (key : Task → ℕ) → key noTask ≡ 0 → (s : State) → Sound s → (t : ℕ) → 1 ≤ key (task s t) → (1 ≤ t) × (t ≤ 24)
-task-in key z s k t h =
-    let low : t ≡ 0 → ⊥ = λ e. omega (arith, ap (λ u. key (task s u)) e ∙ ap key (k .nobody) ∙ z) in
-    let top : 24 < t → ⊥ = λ out. omega (arith, ap key (no-task s k t out) ∙ z) in
-    (omega arith, omega arith)
-
 -- ---- a task moves
 -- task t with record x may wait as that says: on a created semaphore with count 0, or on a created flag whose bits do not meet x,
 -- on SINGLE alone
@@ -56,54 +45,41 @@ pub record MayWait (s : State) (t : ℕ) (x : Task) : Type 0 where
   pub single : (f u : ℕ) → 1 ≤ f → f ≤ 8 → So (isSingle (attribute s f)) → rowOf x ≡ f + 12 → rowOf (task s u) ≡ f + 12 → u ≡ t
 
 module _ (s : State) (k : Sound s) (t : ℕ) (x : Task) (some : 1 ≤ t) (top : t ≤ 24) where
-  now : task (moved t x s) t ≡ settled (task s t) x
-  now = task-moved s t x (omega (arith, k .tasks#))
+  order : Orderly s
+  order = sound-orderly k
 
-  kept : (u : ℕ) → (u ≡ t → ⊥) → task (moved t x s) u ≡ task s u
-  kept u other = task-kept s t x u (λ e. other (sym e))
+  after : Orderly (moved t x s)
+  after = orderly-moved s order t x some top
 
-  -- what holds of its new record, and of the others', holds of each
-  pub task-cases : (P : Task → Type 0) (u : ℕ) → (u ≡ t → P (settled (task s t) x)) → ((u ≡ t → ⊥) → P (task s u)) → P (task (moved t x s) u)
-  task-cases P u here else = ⊎-elim
-      (λ (e : u ≡ t). subst P (sym (ap (task (moved t x s)) e ∙ now)) (here e))
-      (λ (other : u ≡ t → ⊥). subst P (sym (kept u other)) (else other))
-      (same? u t)
-
-  own : SoundCharge (relisted (s .levels) (levelOf (task s t)) (levelOf x) t) (s .numbers .slices) t (settled (task s t) x)
-  own = charge-settled (s .levels) (s .numbers .slices) (k .slices) t (task s t) x (k .charges t)
-
-  -- anybody's charge, after the move
-  after : (u : ℕ) → SoundCharge (relisted (s .levels) (levelOf (task s t)) (levelOf x) t) (s .numbers .slices) u (task (moved t x s) u)
-  after u = task-cases (SoundCharge (relisted (s .levels) (levelOf (task s t)) (levelOf x) t) (s .numbers .slices) u) u
-      (λ e. rw e own)
-      (λ other. charge-kept (s .levels) (s .numbers .slices) (k .slices) t (task s t) x u (task s u) other (λ h. task-in levelOf level-none s k u h .0) (k .charges u))
+  cases : (P : Task → Type 0) (u : ℕ) → (u ≡ t → P (settled (task s t) x)) → ((u ≡ t → ⊥) → P (task s u)) → P (task (moved t x s) u)
+  cases = task-cases s order t x some top
 
   module _ (sound : SoundTask x) (may : MayWait s t x) where
     -- one not created has no level, and so no charge
     bare : x .base ≡ 0 → settled (task s t) x .charge ≡ 0
     bare none =
-        charge-none (relisted (s .levels) (levelOf (task s t)) (levelOf x) t) (s .numbers .slices) (k .slices) t (settled (task s t) x) own
-        (level-charge x (settled (task s t) x .charge) ∙ ap levelOf (sound .blank none) ∙ level-none)
+        let z = task-now s order t x some top in
+        rw z at (charge-none (moved t x s .levels) (moved t x s .numbers .slices) (after .slices) t (task (moved t x s) t) (after .charges t)
+        (ap levelOf z ∙ level-charge x (settled (task s t) x .charge) ∙ ap levelOf (sound .blank none) ∙ level-none))
 
     pub sound-moved : Sound (moved t x s)
-    unfolding moved levelOf rowOf
+    unfolding moved rowOf
     sound-moved = record {
-      tasks# = tasks-moved s t x ∙ k .tasks#;
-      nobody = kept 0 (λ e. omega arith) ∙ k .nobody;
-      tasks = λ u. task-cases SoundTask u (λ e. sound-charge x (settled (task s t) x .charge) sound bare) (λ other. k .tasks u);
-      levels = lists-relisted (s .levels) 31 (λ u. levelOf (task s u)) (k .levels) t (levelOf x) some top (λ u h. ap levelOf (no-task s k u h))
-          (λ u. levelOf (task (moved t x s) u)) (ap levelOf now) (λ u other. ap levelOf (kept u other));
-      waits = lists-relisted (s .waits) 21 (λ u. rowOf (task s u)) (k .waits) t (rowOf x) some top (λ u h. ap rowOf (no-task s k u h))
-          (λ u. rowOf (task (moved t x s) u)) (ap rowOf now) (λ u other. ap rowOf (kept u other));
+      tasks# = after .tasks#;
+      nobody = after .nobody;
+      tasks = λ u. cases SoundTask u (λ e. sound-charge x (settled (task s t) x .charge) sound bare) (λ other. k .tasks u);
+      levels = after .levels;
+      waits = lists-relisted (s .waits) 21 (λ u. rowOf (task s u)) (k .waits) t (rowOf x) some top (λ u h. ap rowOf (no-task s order u h))
+          (λ u. rowOf (task (moved t x s) u)) (ap rowOf (task-now s order t x some top)) (λ u other. ap rowOf (task-else s order t x some top u other));
       slices = k .slices;
-      charges = after;
+      charges = after .charges;
       semaphores = record {
         counts# = a .counts#;
         maxima# = a .maxima#;
         unused = a .unused;
         counts = a .counts;
         maxima = a .maxima;
-        waited = λ m u low top. task-cases (λ y. rowOf y ≡ m → (count s m ≡ 0) × (1 ≤ maximum s m)) u (λ e. may .waited m low top) (λ other. a .waited m u low top);
+        waited = λ m u low top. cases (λ y. rowOf y ≡ m → (count s m ≡ 0) × (1 ≤ maximum s m)) u (λ e. may .waited m low top) (λ other. a .waited m u low top);
       };
       flags = record {
         attributes# = b .attributes#;
@@ -111,10 +87,10 @@ module _ (s : State) (k : Sound s) (t : ℕ) (x : Task) (some : 1 ≤ t) (top : 
         unused = b .unused;
         attributes = b .attributes;
         bits = b .bits;
-        unmet = λ f u low top. task-cases (λ y. rowOf y ≡ f + 12 → (1 ≤ attribute s f) × (isMet (y .wait .pattern) (y .wait .mode) (bitsOf s f) ≡ false)) u (λ e. may .unmet f low top) (λ other. b .unmet f u low top);
-        single = λ f u v low top one. task-cases (λ y. rowOf y ≡ f + 12 → rowOf (task (moved t x s) v) ≡ f + 12 → u ≡ v) u
-            (λ e here. task-cases (λ y. rowOf y ≡ f + 12 → u ≡ v) v (λ z _. e ∙ sym z) (λ _ there. e ∙ sym (may .single f v low top one here there)))
-            (λ other there. task-cases (λ y. rowOf y ≡ f + 12 → u ≡ v) v (λ z here. may .single f u low top one here there ∙ sym z) (λ _ here. b .single f u v low top one there here));
+        unmet = λ f u low top. cases (λ y. rowOf y ≡ f + 12 → (1 ≤ attribute s f) × (isMet (y .wait .pattern) (y .wait .mode) (bitsOf s f) ≡ false)) u (λ e. may .unmet f low top) (λ other. b .unmet f u low top);
+        single = λ f u v low top one. cases (λ y. rowOf y ≡ f + 12 → rowOf (task (moved t x s) v) ≡ f + 12 → u ≡ v) u
+            (λ e here. cases (λ y. rowOf y ≡ f + 12 → u ≡ v) v (λ z _. e ∙ sym z) (λ _ there. e ∙ sym (may .single f v low top one here there)))
+            (λ other there. cases (λ y. rowOf y ≡ f + 12 → u ≡ v) v (λ z here. may .single f u low top one here there ∙ sym z) (λ _ here. b .single f u v low top one there here));
       };
     }
       where

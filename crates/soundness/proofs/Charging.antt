@@ -20,7 +20,8 @@ use Rattle.laws.proofs.Number.{same?, below?}
 use Rattle.laws.proofs.Record.{level-none, level-charge, row-charge, sound-charge}
 use Rattle.soundness.proofs.Listed.{lists-same, lists-turned}
 use Rattle.soundness.proofs.Charges.{charge-none, charge-turned}
-use Rattle.soundness.proofs.Changes.{stored, no-task, renumbered}
+use Rattle.soundness.proofs.Orderly.{sound-orderly, no-task}
+use Rattle.soundness.proofs.Changes.{stored, renumbered}
 
 -- ---- charges
 -- the same records with other charges, which are sound by themselves
@@ -75,13 +76,13 @@ module _ (s : State) (k : Sound s) (t n : ℕ) (fits : SoundCharge (s .levels) (
   -- past the tables nothing is stored, and nothing was to be
   past : 24 < t → withCharge (task s t) n ≡ task s t
   past h =
-      let z : task s t ≡ noTask = no-task s k t h in
+      let z : task s t ≡ noTask = no-task s (sound-orderly k) t h in
       let e : n ≡ 0 = charge-none (s .levels) (s .numbers .slices) (k .slices) t (withCharge (task s t) n) fits (level-charge (task s t) n ∙ ap levelOf z ∙ level-none) in
       rw (z, e)
 
-  pub task-recharged : (u : ℕ) → task (recharged t n s) u ≡ withCharge (task s u) (charges u)
+  pub charge-after : (u : ℕ) → task (recharged t n s) u ≡ withCharge (task s u) (charges u)
   unfolding recharged
-  task-recharged u = ⊎-elim
+  charge-after u = ⊎-elim
       (λ (e : u ≡ t). rw (e, eq-eqb t t refl) (⊎-elim
       (λ (h : t < length (s .tasks)). getD-set-same (s .tasks) t (withCharge (task s t) n) noTask h)
       (λ (h : length (s .tasks) ≤ t). rw (set-out (s .tasks) t (withCharge (task s t) n) h) (sym (past (omega (arith, k .tasks#)))))
@@ -91,7 +92,7 @@ module _ (s : State) (k : Sound s) (t n : ℕ) (fits : SoundCharge (s .levels) (
 
   pub sound-recharged : Sound (recharged t n s)
   unfolding recharged
-  sound-recharged = charged-anew s k (set (s .tasks) t (withCharge (task s t) n)) charges (length-set (s .tasks) t (withCharge (task s t) n) ∙ k .tasks#) task-recharged each
+  sound-recharged = charged-anew s k (set (s .tasks) t (withCharge (task s t) n)) charges (length-set (s .tasks) t (withCharge (task s t) n) ∙ k .tasks#) charge-after each
     where
       each : (u : ℕ) → SoundCharge (s .levels) (s .numbers .slices) u (withCharge (task s u) (charges u))
       each u = ⊎-elim
@@ -120,7 +121,7 @@ module _ (s : State) (l v : ℕ) (k : Sound s) where
   level-cleared t e = ⊎-elim
       (λ (z : task cleared t .charge ≡ 0). z)
       (λ (z : (firstOf (cleared .levels) (levelOf (task cleared t)) ≡ t) × (task cleared t .charge < slice cleared (levelOf (task cleared t)))).
-      rw (task-recharged s k (firstOf (s .levels) l) 0 (inl refl) t, eq-eqb t (firstOf (s .levels) l) (sym (rw e at (z .0)))))
+      rw (charge-after s k (firstOf (s .levels) l) 0 (inl refl) t, eq-eqb t (firstOf (s .levels) l) (sym (rw e at (z .0)))))
       (cleared-sound .charges t)
 
   pub sound-sliced : 1 ≤ l → v ≤ 1000 → Sound (sliced l v s)

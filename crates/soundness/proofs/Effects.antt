@@ -19,7 +19,7 @@ use Rattle.model.specs.Effect.{stopped, toldAll, deleted, toldFlag, chargedIn, 
 use Rattle.model.specs.Sound.{SoundTask, Sound}
 use Rattle.laws.proofs.Record.{level-charge, flag-row}
 use Rattle.soundness.proofs.Changes.{sound-moved, sound-counted, sound-flagged, sound-withTime}
-use Rattle.soundness.proofs.Charging.{task-recharged, sound-recharged, sound-rotated}
+use Rattle.soundness.proofs.Charging.{charge-after, sound-recharged, sound-rotated}
 use Rattle.soundness.proofs.Records.{Stays, sound-dormant, sound-activated, sound-aged, aged-row}
 use Rattle.soundness.proofs.Moved.{numbers-told}
 use Rattle.soundness.proofs.Running.{runner}
@@ -86,14 +86,14 @@ unfolding chargedIn
 sound-chargedIn s k l t e f = go (eqb (slice s l) 0) (ltb (task s t .charge + 1) (slice s l)) refl
   where
     clear : task (recharged t 0 s) t .charge ≡ 0
-    clear = rw (task-recharged s k t 0 (inl refl) t, eq-eqb t t refl)
+    clear = rw (charge-after s k t 0 (inl refl) t, eq-eqb t t refl)
 
     go : (a b : Bool) → ltb (task s t .charge + 1) (slice s l) ≡ b → Sound (cond a s (cond b (recharged t (task s t .charge + 1) s) (rotated l (recharged t 0 s))))
     go true b g = k
     go false true g = sound-recharged s k t (task s t .charge + 1) (rw (level-charge (task s t) (task s t .charge + 1), e) (inr (f, ltb-true (task s t .charge + 1) (slice s l) g)))
     go false false g = sound-rotated (recharged t 0 s) l (sound-recharged s k t 0 (inl refl)) (unfold recharged in rw f clear)
 
-sound-charged : (s : State) → Sound s → (run : ℕ) → (1 ≤ run → (levelOf (task s run) ≡ task s run .priority) × (firstOf (s .levels) (task s run .priority) ≡ run)) → Sound (charged run s)
+pub sound-charged : (s : State) → Sound s → (run : ℕ) → (1 ≤ run → (levelOf (task s run) ≡ task s run .priority) × (firstOf (s .levels) (task s run .priority) ≡ run)) → Sound (charged run s)
 unfolding charged
 sound-charged s k run first = go (eqb run 0) refl
   where

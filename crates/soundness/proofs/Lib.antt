@@ -1,6 +1,7 @@
 pub mod Listed
 pub mod Moved
 pub mod Charges
+pub mod Orderly
 pub mod Changes
 pub mod Charging
 pub mod Records

@@ -3,15 +3,17 @@
 use mathlib.Core.Path.{_≡_, refl, sym}
 use mathlib.Core.Bool.{Bool, true, false, cond}
 use mathlib.Core.List.{List, [], _∷_}
-use Prim.Native.Nat.{ℕ, zero, suc, _<_}
+use mathlib.Core.Logic.{⊎-elim}
+use Prim.Native.Nat.{ℕ, zero, suc, _≤_, _<_}
 use lib.Dec.{eqb}
 use lib.ListN.{length, length-set}
-use lib.Seq.{getD-set-same, getD-set-other}
+use lib.Seq.{getD-set-same, getD-set-other, set-out}
+use Rattle.laws.proofs.Number.{same?, below?}
 use Rattle.model.specs.declared.Task.{Task}
 use Rattle.model.specs.declared.State.{State}
 use Rattle.model.specs.declared.News.{News}
-use Rattle.model.specs.Task.{noTask, dormant, activated, settled, aged, told}
-use Rattle.model.specs.State.{task, moved}
+use Rattle.model.specs.Task.{noTask, dormant, activated, withCharge, settled, aged, told}
+use Rattle.model.specs.State.{task, moved, recharged}
 use Rattle.model.specs.Effect.{stopped, toldAll, lapsed}
 
 -- ---- the records
@@ -26,6 +28,17 @@ task-moved s t x h = getD-set-same (s .tasks) t (settled (task s t) x) noTask h
 pub tasks-moved : (s : State) (u : ℕ) (x : Task) → length (moved u x s .tasks) ≡ length (s .tasks)
 unfolding moved
 tasks-moved s u x = length-set (s .tasks) u (settled (task s u) x)
+
+-- what holds of t's record with any charge holds of it after a task was charged
+pub task-recharged : (P : Task → Type 0) (s : State) (u n t : ℕ) → ((c : ℕ) → P (withCharge (task s t) c)) → P (task (recharged u n s) t)
+unfolding recharged
+task-recharged P s u n t holds = ⊎-elim
+    (λ (e : t ≡ u). ⊎-elim
+    (λ (h : u < length (s .tasks)). rw (e, getD-set-same (s .tasks) u (withCharge (task s u) n) noTask h) (rw e at (holds n)))
+    (λ (h : length (s .tasks) ≤ u). rw (set-out (s .tasks) u (withCharge (task s u) n) h) (holds (task s t .charge)))
+    (below? u (length (s .tasks))))
+    (λ (other : t ≡ u → ⊥). rw (getD-set-other (s .tasks) u t (withCharge (task s u) n) noTask other) (holds (task s t .charge)))
+    (same? t u)
 
 -- ---- the numbers
 pub numbers-moved : (s : State) (u : ℕ) (x : Task) → moved u x s .numbers ≡ s .numbers

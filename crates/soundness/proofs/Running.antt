@@ -18,7 +18,7 @@ use Rattle.model.specs.Sound.{Sound}
 use Rattle.laws.proofs.Number.{same?}
 use Rattle.laws.proofs.Record.{level-none}
 use Rattle.soundness.proofs.Listed.{key-first}
-use Rattle.soundness.proofs.Changes.{task-in}
+use Rattle.soundness.proofs.Orderly.{sound-orderly, task-in}
 use Rattle.soundness.proofs.Records.{level-live, level-priority}
 
 -- the best of n rows from row l on: nobody, or who stands first in row i
@@ -76,7 +76,7 @@ runner s k some = go (best 30 1 (s .levels)) some
     go : Best (s .levels) 30 1 (running s) → 1 ≤ running s → Runner s
     go b h =
         let l = found b h in
-        let i = task-in levelOf level-none s k (running s) (l .0) in
+        let i = task-in s (sound-orderly k) levelOf level-none (running s) (l .0) in
         let r = level-live (task s (running s)) (l .0) in
         let p = level-priority (task s (running s)) (l .0) in
         record { low = i .0; top = i .1; live = r .0; idle = r .1; level = p; first = rw p at (l .1) }

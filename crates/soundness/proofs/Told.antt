@@ -21,7 +21,8 @@ use Rattle.laws.proofs.Occ.{one-eq, one-ne, occ-cons, occ-none}
 use Rattle.laws.proofs.Padded.{padded-rest, first-none}
 use Rattle.laws.proofs.Record.{row-none, row-charge}
 use Rattle.soundness.proofs.Listed.{key-of, key-first, listed-in}
-use Rattle.soundness.proofs.Changes.{MayWait, task-in, task-cases, sound-moved}
+use Rattle.soundness.proofs.Orderly.{sound-orderly, task-in, task-cases}
+use Rattle.soundness.proofs.Changes.{MayWait, sound-moved}
 use Rattle.soundness.proofs.Records.{WaitsAs, Stays, stays-charge, told-stays, told-live, row-live, sound-told}
 
 -- ---- who may wait
@@ -41,7 +42,7 @@ may-same s k t x e = record {
 
 -- who is listed by a semaphore or a flag is one of the tasks
 pub waiter-in : (s : State) → Sound s → (t : ℕ) → 1 ≤ rowOf (task s t) → (1 ≤ t) × (t ≤ 24)
-waiter-in s k t h = task-in rowOf row-none s k t h
+waiter-in s k t h = task-in s (sound-orderly k) rowOf row-none t h
 
 -- who stands first in a row of waiters waits there
 pub first-waits : (s : State) → Sound s → (m : ℕ) → m ≤ 20 → 1 ≤ firstOf (s .waits) m → rowOf (task s (firstOf (s .waits) m)) ≡ m
@@ -53,6 +54,12 @@ no-waiter s k m low top e t f =
     let i = waiter-in s k t (omega arith) .0 in
     let there : occ t (waiters s m) ≡ 1 = listed-in (s .waits) 21 (λ t. rowOf (task s t)) (k .waits) m t (omega arith) i low f in
     omega (arith, first-none (waiters s m) (k .waits .ends m (omega arith)) e t i)
+
+-- who stands in a row of waiters is one of the tasks
+pub queued-in : (s : State) → Sound s → (m : ℕ) → m ≤ 20 → (t : ℕ) → 1 ≤ t → 1 ≤ occ t (waiters s m) → t ≤ 24
+queued-in s k m top t low there =
+    let e = key-of (s .waits) 21 (λ t. rowOf (task s t)) (k .waits) m t (omega arith) low there in
+    waiter-in s k t (omega arith) .1
 
 -- ---- the queue, from its first to its last
 -- it holds live tasks, and whoever waits in row m and has not been told
@@ -92,7 +99,7 @@ module _ (w : News) (m : ℕ) (some : 1 ≤ m) where
           (told-stays w (task s t))
 
       cases : (P : Task → Type 0) (u : ℕ) → (u ≡ t → P (settled (task s t) x)) → ((u ≡ t → ⊥) → P (task s u)) → P (task (moved t x s) u)
-      cases = task-cases s (k .sound) t x (omega arith) (first .0)
+      cases = task-cases s (sound-orderly (k .sound)) t x (omega arith) (first .0)
 
       here : rowOf x ≡ m → Stays w x
       here f = ⊎-elim
@@ -122,6 +129,6 @@ told-row w s k m some top = told-all w m some (waiters s m) s (record {
   ends = k .waits .ends m (omega arith);
   lives = λ t low there.
       let e = key-of (s .waits) 21 (λ t. rowOf (task s t)) (k .waits) m t (omega arith) low there .1 in
-      (waiter-in s k t (omega arith) .1, row-live (task s t) (k .tasks t) (omega arith));
+      (queued-in s k m top t low there, row-live (task s t) (k .tasks t) (omega arith));
   holds = λ t low e. inl (omega (arith, listed-in (s .waits) 21 (λ t. rowOf (task s t)) (k .waits) m t (omega arith) low some e));
 })
