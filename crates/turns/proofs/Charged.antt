@@ -1,6 +1,6 @@
--- A tick's own part: the running task's level is charged, and turned at its slice; so who stands in that level comes one tick nearer.
+-- A tick's own part: the running task is charged, and its level turned at the slice; so who stands in that level comes one tick nearer.
 -- It rests on `charged` of model/specs/Effect, on who runs (soundness) and on where a task stands in a turned row (Places).
-use mathlib.Core.Path.{_≡_, refl, sym}
+use mathlib.Core.Path.{_≡_, refl, sym, ap, _∙_}
 use mathlib.Core.Bool.{Bool, true, false, cond, not, _&&_}
 use mathlib.Core.Logic.{⊎-elim}
 use Prim.Native.Nat.{ℕ, _+_, _≤_, _<_}
@@ -10,86 +10,94 @@ use lib.Dec.{eqb, ltb}
 use lib.ListN.{length}
 use lib.Seq.{getD-set-same, getD-set-other}
 use borrow.Author.Tests.{eq-eqb, ne-eqb}
+use Rattle.model.specs.declared.Task.{Task}
 use Rattle.model.specs.declared.State.{State}
-use Rattle.model.specs.Row.{place, turned, firstOf}
-use Rattle.model.specs.Task.{levelOf}
-use Rattle.model.specs.State.{task, slice, charge, level, running, withCharge, rotated}
-use Rattle.model.specs.Effect.{chargedLevel, charged}
+use Rattle.model.specs.Row.{place, first, turned, firstOf}
+use Rattle.model.specs.Task.{noTask, levelOf, withCharge}
+use Rattle.model.specs.State.{task, slice, level, running, sliced, recharged, rotated}
+use Rattle.model.specs.Effect.{chargedIn, charged}
 use Rattle.model.specs.Test.{one, occ}
 use Rattle.model.specs.Sound.{Sound}
 use Rattle.laws.proofs.Number.{same?}
-use Rattle.laws.proofs.Table.{row-withRow-same, row-withRow-other}
-use Rattle.soundness.specs.Statements.{Runs, nobody, stands}
-use Rattle.soundness.proofs.Listed.{key-first, listed-in}
-use Rattle.soundness.proofs.Changes.{task-in}
-use Rattle.soundness.proofs.Soundness.{runs-first}
+use Rattle.laws.proofs.Record.{level-none}
+use Rattle.laws.proofs.Table.{row-past, row-withRow-same, row-withRow-other}
+use Rattle.soundness.proofs.Listed.{key-first}
+use Rattle.soundness.proofs.Orderly.{Orderly, sound-orderly, task-in}
+use Rattle.soundness.proofs.Running.{Runner, runner}
 use Rattle.turns.proofs.Places.{first-place, place-turned}
-use Rattle.turns.proofs.Levels.{level-priority, level-none, level-top, Nearer}
+use Rattle.turns.proofs.Levels.{level-top}
+use Rattle.turns.proofs.Moving as Moving
+use Rattle.turns.proofs.Moving.{used, used-below, first-level, Nearer}
 
 module _ (s : State) (k : Sound s) (l t : ℕ) (h : 1 ≤ l) (e : levelOf (task s t) ≡ l) where
-  pub low : 1 ≤ t
-  unfolding levelOf
-  low = task-in levelOf refl s k t (omega arith) .0
+  order : Orderly s
+  order = sound-orderly k
 
-  pub long : t < length (s .tasks)
-  unfolding levelOf
-  long = omega (arith, k .tasks#, task-in levelOf refl s k t (omega arith) .1)
-
-  top : l ≤ 30
+  pub top : l ≤ 30
   top = omega (arith, level-top (task s t) (k .tasks t) (omega arith))
 
+  pub low : 1 ≤ t
+  low = Moving.low l t h top s order e
+
+  pub long : t < length (s .tasks)
+  long = omega (arith, k .tasks#, task-in s order levelOf level-none t (omega arith) .1)
+
   pub listed : occ t (level s l) ≡ 1
-  listed = listed-in (s .levels) 31 (λ u. levelOf (task s u)) (k .levels) l t (omega (arith, top)) low h e
+  listed = Moving.listed l t h top s order e
 
-  -- where its own level is charged
-  charged-own : 1 ≤ slice s l → 1 ≤ place (level s l) t → Nearer l t s (chargedLevel l s) 1
-  unfolding chargedLevel
-  charged-own some behind = rw (ne-eqb (slice s l) 0 (λ z. omega arith)) (go (ltb (charge s l + 1) (slice s l)))
+  -- the first of the level
+  abbrev a : ℕ
+  a = firstOf (s .levels) l
+
+  -- where it is charged
+  charged-own : 1 ≤ slice s l → 1 ≤ place (level s l) t → Nearer l t s (chargedIn l a s) 1
+  unfolding chargedIn
+  charged-own some behind = rw (ne-eqb (slice s l) 0 (λ z. omega arith)) (go (ltb (task s a .charge + 1) (slice s l)))
     where
-      set-charge : (n : ℕ) → charge (withCharge l n s) l ≡ n
-      set-charge n = getD-set-same (s .numbers .charges) l n 0 (omega (arith, top, k .rates .charges#))
+      now : (n : ℕ) → task (recharged a n s) a .charge ≡ n
+      now n = unfold recharged in ap (λ (y : Task). y .charge)
+          (getD-set-same (s .tasks) a (withCharge (task s a) n) noTask (omega (arith, k .tasks#, task-in s order levelOf level-none a (omega (arith, first-level l t h top s order e)))))
 
-      below : charge s l < slice s l
-      below = ⊎-elim (λ c. c) (λ c. absurd (omega arith)) (k .rates .charges l)
-
-      go : (b : Bool) → Nearer l t s (cond b (withCharge l (charge s l + 1) s) (rotated l (withCharge l 0 s))) 1
-      go true = record { steady = refl; falls = rw (set-charge (charge s l + 1)) (omega arith) }
-      go false = unfold rotated in record {
+      go : (b : Bool) → Nearer l t s (cond b (recharged a (task s a .charge + 1) s) (rotated l (recharged a 0 s))) 1
+      go true = let c = now (task s a .charge + 1) in unfold recharged in record { steady = refl; falls = omega (arith, c) }
+      go false = unfold recharged rotated in record {
         steady = refl;
-        falls = rw (set-charge 0, row-withRow-same (s .levels) l (turned (level s l)) (omega (arith, top, k .levels .sized)))
-            (omega (arith, below, mul-le-mul-right (slice s l) (place-turned (level s l) t low (omega (arith, listed)) (λ z. omega (arith, first-place (level s l) t z)))));
+        falls = rw (row-withRow-same (s .levels) l (turned (level s l)) (omega (arith, top, k .levels .sized)))
+            (omega (arith, used-below l t h top s order e some, mul-le-mul-right (slice s l) (place-turned (level s l) t low (omega (arith, listed)) (λ z. omega (arith, first-place (level s l) t z)))));
       }
 
-  -- where another is
-  charged-other : (j : ℕ) → (j ≡ l → ⊥) → Nearer l t s (chargedLevel j s) 0
-  unfolding chargedLevel rotated
-  charged-other j other = go (eqb (slice s j) 0) (ltb (charge s j + 1) (slice s j))
+  -- the charge of another leaves the first's
+  spares : (u n : ℕ) → (levelOf (task s u) ≡ l → ⊥) → task (recharged u n s) a .charge ≡ task s a .charge
+  spares u n other = unfold recharged in ap (λ (y : Task). y .charge)
+      (getD-set-other (s .tasks) u a (withCharge (task s u) n) noTask (λ z. other (rw z at (first-level l t h top s order e))))
+
+  -- where a task of another level is charged
+  charged-other : (j u : ℕ) → levelOf (task s u) ≡ j → (j ≡ l → ⊥) → Nearer l t s (chargedIn j u s) 0
+  unfolding chargedIn
+  charged-other j u f other = go (eqb (slice s j) 0) (ltb (task s u .charge + 1) (slice s j))
     where
-      kept : (n : ℕ) → charge (withCharge j n s) l ≡ charge s l
-      kept n = getD-set-other (s .numbers .charges) j l n 0 (λ z. other (sym z))
+      kept : (n : ℕ) → task (recharged u n s) a .charge ≡ task s a .charge
+      kept n = spares u n (λ z. other (sym f ∙ z))
 
-      go : (a b : Bool) → Nearer l t s (cond a s (cond b (withCharge j (charge s j + 1) s) (rotated j (withCharge j 0 s)))) 0
-      go true b = record { steady = refl; falls = omega arith }
-      go false true = record { steady = refl; falls = rw (kept (charge s j + 1)) (omega arith) }
-      go false false = record {
-        steady = refl;
-        falls = rw (kept 0, row-withRow-other (s .levels) j (turned (level s j)) l (λ z. other (sym z))) (omega arith);
-      }
+      turned-row : level (rotated j (recharged u 0 s)) l ≡ level s l
+      turned-row = unfold recharged rotated in row-withRow-other (s .levels) j (turned (level s j)) l (λ z. other (sym z))
 
-  -- who runs is first of the level of its priority
-  runs : {u : ℕ} → Runs s u → (u ≡ 0 → ⊥) → (levelOf (task s u) ≡ task s u .priority) × (firstOf (s .levels) (levelOf (task s u)) ≡ u)
-  runs (nobody all) some = absurd (some refl)
-  runs (stands i u low top one f all) some =
-      let z : levelOf (task s u) ≡ i = rw f at (key-first (s .levels) 31 (λ u. levelOf (task s u)) (k .levels) i (omega arith) (λ z. omega arith) .1) in
-      (level-priority (task s u) (omega arith), rw z f)
+      turned-used : used (rotated j (recharged u 0 s)) l ≡ used s l
+      turned-used = ap (λ q. task (rotated j (recharged u 0 s)) (first q) .charge) turned-row ∙ (unfold rotated in kept 0)
 
-  running-level : (running s ≡ 0 → ⊥) → levelOf (task s (running s)) ≡ task s (running s) .priority
-  running-level some = runs (runs-first s k) some .0
+      turned-place : place (level (rotated j (recharged u 0 s)) l) t ≡ place (level s l) t
+      turned-place = ap (λ q. place q t) turned-row
+
+      go : (b c : Bool) → Nearer l t s (cond b s (cond c (recharged u (task s u .charge + 1) s) (rotated j (recharged u 0 s)))) 0
+      go true c = record { steady = refl; falls = omega arith }
+      go false true = let z = kept (task s u .charge + 1) in unfold recharged in record { steady = refl; falls = omega (arith, z) }
+      go false false = record { steady = unfold recharged rotated in refl; falls = rw (turned-used, turned-place) (omega arith) }
 
   -- so who is not first does not run
   pub runs-not : 1 ≤ place (level s l) t → running s ≡ t → ⊥
   runs-not behind z =
-      let f : firstOf (s .levels) l ≡ t = rw (z, e) at (runs (runs-first s k) (λ y. omega (arith, low)) .1) in
+      let r = runner s k (omega (arith, low)) in
+      let f : firstOf (s .levels) l ≡ t = rw (sym (r .level), z, e) at (r .first) in
       omega (arith, first-place (level s l) t f)
 
   pub nearer-charged : 1 ≤ slice s l → 1 ≤ place (level s l) t
@@ -97,7 +105,7 @@ module _ (s : State) (k : Sound s) (l t : ℕ) (h : 1 ≤ l) (e : levelOf (task 
   unfolding charged
   nearer-charged some behind = ⊎-elim
       (λ (z : running s ≡ 0). rw (eq-eqb (running s) 0 z) (idle z))
-      (λ (n : running s ≡ 0 → ⊥). rw (ne-eqb (running s) 0 n) (someone (running-level n)))
+      (λ (n : running s ≡ 0 → ⊥). rw (ne-eqb (running s) 0 n) (someone (runner s k (omega arith))))
       (same? (running s) 0)
     where
       d : ℕ
@@ -106,8 +114,22 @@ module _ (s : State) (k : Sound s) (l t : ℕ) (h : 1 ≤ l) (e : levelOf (task 
       idle : running s ≡ 0 → Nearer l t s s d
       idle z = rw (z, k .nobody, level-none, ne-eqb 0 l (λ y. omega arith)) (record { steady = refl; falls = omega arith })
 
-      someone : levelOf (task s (running s)) ≡ task s (running s) .priority → Nearer l t s (chargedLevel (task s (running s) .priority) s) d
-      someone f = rw f (⊎-elim
-          (λ (y : task s (running s) .priority ≡ l). rw (y, eq-eqb l l refl, ne-eqb (slice s l) 0 (λ z. omega arith)) (charged-own some behind))
-          (λ (other : task s (running s) .priority ≡ l → ⊥). rw (ne-eqb (task s (running s) .priority) l other) (charged-other (task s (running s) .priority) other))
+      someone : Runner s → Nearer l t s (chargedIn (task s (running s) .priority) (running s) s) d
+      someone r = rw (r .level) (⊎-elim
+          (λ (y : task s (running s) .priority ≡ l). rw (y, eq-eqb l l refl, ne-eqb (slice s l) 0 (λ z. omega arith), ← rw y at (r .first)) (charged-own some behind))
+          (λ (other : task s (running s) .priority ≡ l → ⊥). rw (ne-eqb (task s (running s) .priority) l other) (charged-other (task s (running s) .priority) (running s) (r .level) other))
           (same? (task s (running s) .priority) l))
+
+  -- ---- a slice that is set for another level
+  -- whose first, if there is one, is not of this
+  first-other : (j : ℕ) → (j ≡ l → ⊥) → levelOf (task s (firstOf (s .levels) j)) ≡ l → ⊥
+  first-other j other z =
+      let b = task-in s order levelOf level-none (firstOf (s .levels) j) (omega arith) .0 in
+      let inside : 31 ≤ j → ⊥ = λ far. omega (arith, b, ap first (row-past (s .levels) j (omega (arith, k .levels .sized)))) in
+      other (sym (key-first (s .levels) 31 (λ u. levelOf (task s u)) (k .levels) j (omega arith) (λ y. omega (arith, b)) .1) ∙ z)
+
+  pub nearer-sliced : (j v : ℕ) → (j ≡ l → ⊥) → Nearer l t s (sliced j v s) 0
+  nearer-sliced j v other = record {
+    steady = unfold sliced recharged in getD-set-other (s .numbers .slices) j l v 0 (λ i. other (sym i));
+    falls = unfold sliced recharged in omega (arith, spares (firstOf (s .levels) j) 0 (first-other j other));
+  }

@@ -10,7 +10,7 @@ use Rattle.model.specs.declared.Context.{Context}
 use Rattle.model.specs.declared.Call.{Call}
 use Rattle.model.specs.declared.Call.the-variants.{TaskCreate, TaskActivate, TaskTerminate, TaskSuspend, TaskResume, TaskChangePriority, SysTsliceTicks, SemCreate, SemIsignal, SemAcquire}
 use Rattle.model.specs.Task.{isRunnable}
-use Rattle.model.specs.State.{fresh, task, slice, charge, level}
+use Rattle.model.specs.State.{fresh, task, slice, level}
 use Rattle.model.specs.Call.{step}
 use Rattle.model.specs.Sound.{Sound}
 use Rattle.model.proofs.Words.{opened}
@@ -52,7 +52,7 @@ pub served-second : Ended (reached two signals) 2 (pos 0)
 unfolding opened reached two waiting signals
 served-second = record { over = refl; code = refl }
 
--- ---- B: tasks 1, 2 and 3 are the runnable tasks of level 6, in that order; its slice is 2 and its charge 0
+-- ---- B: tasks 1, 2 and 3 are the runnable tasks of level 6, in that order; its slice is 2, and none has a charge
 unfoldable pub runnable : List (Context × Call)
 runnable = byTask (SysTsliceTicks 6 2) ∷ byTask (TaskCreate 1 6 1) ∷ byTask (TaskCreate 2 6 1) ∷ byTask (TaskCreate 3 6 1) ∷ []
 
@@ -72,7 +72,7 @@ unfolding opened reached three runnable ticks charges noneIs
 third = turns-come-round three ticks 6 3 3 2 three-sound tt refl refl refl (lit≤ tt)
     (each tt (each tt (each tt (each tt none)))) (none-does (terminate 3) ticks three tt) (each refl (each refl (each refl (each refl none)))) (none-does (setSlice 6) ticks three tt) (lit≤ tt)
 
-pub charge-none : charge three 6 ≡ 0
+pub charge-none : task three 1 .charge ≡ 0
 unfolding opened reached three runnable
 charge-none = refl
 
@@ -132,7 +132,7 @@ unfolding opened reached three runnable reorders charges noneIs seenFirst
 needs-priority claim = seen-first (claim three reorders 6 2 2 2 three-sound tt refl refl refl (lit≤ tt)
     (each tt (each tt (each tt (each tt none)))) (none-does (terminate 2) reorders three tt) (none-does (setSlice 6) reorders three tt) (lit≤ tt))
 
--- the slice set again after every tick, the charge never reaches it
+-- the slice set again after every tick, no charge reaches it
 resets : List (Context × Call)
 resets = aTick ∷ byTask (SysTsliceTicks 6 2) ∷ aTick ∷ byTask (SysTsliceTicks 6 2) ∷ []
 

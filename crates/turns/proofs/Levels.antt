@@ -1,37 +1,19 @@
--- The levels of records, and what it is to come nearer to the first place of a level.
--- It rests on the records of model/specs/Task, and the moves of Still.
-use mathlib.Core.Path.{_≡_, refl, _∙_}
+-- The levels of records: what it is to be runnable, and which changes of its record leave a runnable task in its level.
+-- It rests on the records of model/specs/Task.
+use mathlib.Core.Path.{_≡_, refl}
 use mathlib.Core.Bool.{Bool, true, false, cond, not, _&&_}
-use Prim.Native.Nat.{ℕ, _+_, _*_, _-_, _≤_}
+use Prim.Native.Nat.{ℕ, _-_, _≤_}
 use native.Mathlib.Omega.{arith}
-use native.Mathlib.Nat.{mul-le-mul-right}
 use lib.Dec.{T as So, eqb}
 use Rattle.model.specs.declared.Task.{Task}
-use Rattle.model.specs.declared.State.{State}
 use Rattle.model.specs.declared.News.{News}
 use Rattle.model.specs.declared.News.the-variants.{Deleted, Bits}
-use Rattle.model.specs.Row.{place}
 use Rattle.model.specs.Flag.{isMet}
-use Rattle.model.specs.Task.{isDormant, isSuspended, isWaiting, isRunnable, isTimed, ranOut, served, dlt, levelOf, noTask, ended, withRemaining, aged, told}
-use Rattle.model.specs.State.{slice, charge, level, moved}
+use Rattle.model.specs.Task.{isDormant, isSuspended, isWaiting, isRunnable, isTimed, ranOut, served, dlt, levelOf, ended, withRemaining, aged, told}
 use Rattle.model.specs.Sound.{SoundTask}
 use Rattle.laws.proofs.Padded.{both}
 use Rattle.ways.proofs.Tests.{some-of}
-use Rattle.soundness.proofs.Records.{level-live, live-made}
-use Rattle.turns.proofs.Still.{Keyed, Still}
-
-pub on-levels : Keyed levelOf (λ s. s .levels)
-unfolding moved
-on-levels = record { relists = λ s u x. refl }
-
--- ---- levels of records
-pub level-priority : (x : Task) → 1 ≤ levelOf x → levelOf x ≡ x .priority
-unfolding levelOf
-level-priority x h = go (isRunnable x) h
-  where
-    go : (b : Bool) → 1 ≤ cond b (x .priority) 0 → cond b (x .priority) 0 ≡ x .priority
-    go true h = refl
-    go false h = absurd (omega arith)
+use Rattle.soundness.proofs.Records.{level-live, level-priority, live-made}
 
 pub level-runnable : (x : Task) (l : ℕ) → So (isRunnable x) → x .priority ≡ l → levelOf x ≡ l
 unfolding levelOf
@@ -44,10 +26,6 @@ level-runnable x l h e = go (isRunnable x) h
 -- a runnable task has a level
 pub level-some : (x : Task) → SoundTask x → So (isRunnable x) → 1 ≤ x .priority
 level-some x k h = k .priority (live-made x k (some-of (x .active) .yields (both (not (isDormant x)) (not (isSuspended x) && not (isWaiting x)) h .0))) .0
-
-pub level-none : levelOf noTask ≡ 0
-unfolding levelOf
-level-none = refl
 
 pub level-top : (x : Task) → SoundTask x → 1 ≤ levelOf x → levelOf x ≤ 30
 level-top x k h = omega (arith, level-priority x h, k .priority (live-made x k (level-live x h .0)))
@@ -73,20 +51,3 @@ level-aged x h = go (isTimed x) (eqb (x .wait .remaining) 1)
     go true true = level-ended x (ranOut x) 0 h
     go true false = unfold levelOf in refl
     go false b = refl
-
--- ---- nearer
-pub record Nearer (l t : ℕ) (s s′ : State) (d : ℕ) : Type 0 where
-  pub steady : slice s′ l ≡ slice s l
-  pub falls : place (level s′ l) t * slice s l + (d + charge s l) ≤ place (level s l) t * slice s l + charge s′ l
-
-pub nearer-still : {l t : ℕ} {s s′ : State} → Still levelOf (λ z. z .levels) l t s s′ → s′ .numbers ≡ s .numbers → Nearer l t s s′ 0
-nearer-still {l} {t} {s} {s′} a r = record {
-  steady = rw r;
-  falls = rw r (omega (arith, mul-le-mul-right (slice s l) (a .nearer)));
-}
-
-pub nearer-then : {l t : ℕ} {s₁ s₂ s₃ : State} {d : ℕ} → Nearer l t s₁ s₂ d → Nearer l t s₂ s₃ 0 → Nearer l t s₁ s₃ d
-nearer-then {l} {t} {s₁} {s₂} {s₃} {d} a b = record {
-  steady = b .steady ∙ a .steady;
-  falls = let c = rw (a .steady) at (b .falls) in omega (arith, c, a .falls);
-}

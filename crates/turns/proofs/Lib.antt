@@ -6,6 +6,7 @@ pub mod Ends
 pub mod Outcome
 pub mod Served
 pub mod Levels
+pub mod Moving
 pub mod Charged
 pub mod Nearer
 pub mod Turns

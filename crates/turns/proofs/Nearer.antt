@@ -1,11 +1,10 @@
--- What a call does to a runnable task that keeps its level: its place times the slice falls behind the charge, by one more at a charged tick.
+-- What a call does to a runnable task that keeps its level: its place times the slice falls behind the charge of the level's first, by one more at a charged tick.
 -- It goes by the ways of ways, the moves that leave a task where it is (Still) and a tick's own part (Charged).
 use mathlib.Core.Path.{_≡_, refl, sym, ap, _∙_}
 use mathlib.Core.Bool.{Bool, true, false, not, _&&_}
 use Prim.Native.Nat.{ℕ, _+_, _≤_, _%_, _^_}
 use native.Mathlib.Omega.{arith}
 use lib.Dec.{T as So, eqb}
-use lib.Seq.{getD-set-other}
 use Rattle.model.specs.declared.Task.{Task}
 use Rattle.model.specs.declared.State.{State}
 use Rattle.model.specs.declared.Plan.{Plan}
@@ -15,24 +14,31 @@ use Rattle.model.specs.declared.News.{News}
 use Rattle.model.specs.declared.News.the-variants.{Deleted}
 use Rattle.model.specs.Row.{place, first, firstOf}
 use Rattle.model.specs.Flag.{flagRow}
-use Rattle.model.specs.Task.{served, released, levelOf, waiting, ended, aged}
-use Rattle.model.specs.State.{task, slice, time, level, waiters, running, moved, counted, flagged, sliced, withTime}
+use Rattle.model.specs.Task.{served, released, levelOf, waiting, ended, settled, aged}
+use Rattle.model.specs.State.{task, slice, time, level, waiters, running, moved, counted, flagged, withTime}
 use Rattle.model.specs.Code.{isRefusal}
 use Rattle.model.specs.Effect.{stopped, toldAll, deleted, toldFlag, charged, ticked, carried}
 use Rattle.model.specs.Test.{one}
 use Rattle.model.specs.Sound.{Sound}
 use Rattle.laws.proofs.Occ.{one-not}
-use Rattle.soundness.specs.Statements.{stands}
+use Rattle.laws.proofs.Record.{level-charge, flag-row}
+use Rattle.soundness.proofs.Orderly.{Orderly, sound-orderly}
 use Rattle.soundness.proofs.Changes.{sound-withTime}
+use Rattle.soundness.proofs.Running.{runner}
+use Rattle.soundness.proofs.Told.{waiter-in, first-waits, queued-in}
+use Rattle.soundness.proofs.Effects.{sound-charged}
+use Rattle.soundness.proofs.Changed.{named-in}
 use Rattle.ways.specs.Kind as Kinds
 use Rattle.ways.specs.Kind.{Kind, setSlice, isTick}
 use Rattle.ways.specs.Entry.{Entry}
 use Rattle.ways.proofs.Done.{Done, Way, refuses, accepts}
 use Rattle.ways.proofs.Done.{Done as Ways}
-use Rattle.turns.proofs.Still.{tasks-charged, still-moved, still-stopped, still-told, still-lapsed}
-use Rattle.soundness.proofs.Moved.{task-moved, numbers-moved, numbers-stopped, numbers-told, numbers-lapsed}
-use Rattle.turns.proofs.Levels.{on-levels, level-ended, level-told, level-aged, Nearer, nearer-still, nearer-then}
-use Rattle.turns.proofs.Charged.{low, long, runs-not, nearer-charged}
+use Rattle.turns.proofs.Still.{only-charged, Steady, still-stopped, still-told, still-lapsed}
+use Rattle.soundness.proofs.Moved.{task-moved}
+use Rattle.turns.proofs.Levels.{level-ended, level-told, level-aged}
+use Rattle.turns.proofs.Moving.{Nearer, nearer-then, Nears, in-level}
+use Rattle.turns.proofs.Charged as Charged
+use Rattle.turns.proofs.Charged.{long, runs-not, nearer-charged, nearer-sliced}
 
 -- a call of kind j is not a termination of t, and does not set the slice of l
 pub record Spared (l t : ℕ) (j : Kind) : Type 0 where
@@ -43,38 +49,40 @@ module _ (s : State) (k : Sound s) (l t : ℕ) (h : 1 ≤ l) (e : levelOf (task 
   same : Nearer l t s s 0
   same = record { steady = refl; falls = omega arith }
 
+  top : l ≤ 30
+  top = Charged.top s k l t h e
+
+  steady : Steady levelOf l t (Nears l t h top)
+  steady = in-level l t h top
+
+  order : Orderly s
+  order = sound-orderly k
+
   -- another's record changes, or its own in its level
-  moving : (u : ℕ) (x : Task) → (u ≡ t → levelOf x ≡ l) → Nearer l t s (moved u x s) 0
-  moving u x keeps = nearer-still (still-moved on-levels l t (low s k l t h e) s u x e keeps) (numbers-moved s u x)
+  moving : (u : ℕ) (x : Task) → 1 ≤ u → u ≤ 24 → (u ≡ t → levelOf x ≡ l) → 1 ≤ slice s l → Nearer l t s (moved u x s) 0
+  moving u x low most keeps some = steady .moves s u x low most e keeps order some .1
 
-  ending : (u v : ℕ) → Nearer l t s (moved u (ended (task s u) v 0) s) 0
-  ending u v = moving u (ended (task s u) v 0) (λ z. rw z (level-ended (task s t) v 0 (omega arith) ∙ e))
+  ending : (u v : ℕ) → 1 ≤ u → u ≤ 24 → 1 ≤ slice s l → Nearer l t s (moved u (ended (task s u) v 0) s) 0
+  ending u v low most = moving u (ended (task s u) v 0) low most (λ z. rw z (level-ended (task s t) v 0 (omega arith) ∙ e))
 
-  stopping : (u : ℕ) → (u ≡ t → ⊥) → Nearer l t s (stopped u s) 0
-  stopping u apart = nearer-still (still-stopped on-levels l t (low s k l t h e) s u apart e) (numbers-stopped s u)
+  stopping : (u : ℕ) → 1 ≤ u → u ≤ 24 → (u ≡ t → ⊥) → 1 ≤ slice s l → Nearer l t s (stopped u s) 0
+  stopping u low most apart some = still-stopped steady s u low most apart e order some .1
 
   -- those in a row of waiters are told
-  telling : (w : News) (n : ℕ) → Nearer l t s (toldAll w (waiters s n) s) 0
-  telling w n = nearer-still (still-told on-levels l t (low s k l t h e) w (waiters s n) s (λ there x z. level-told w x (omega arith) ∙ z) e) (numbers-told w (waiters s n) s)
+  telling : (w : News) (n : ℕ) → n ≤ 20 → 1 ≤ slice s l → Nearer l t s (toldAll w (waiters s n) s) 0
+  telling w n most some = still-told steady w (waiters s n) s (queued-in s k n most) (λ there x z. level-told w x (omega arith) ∙ z) e order some .1
 
-  deleting : (n : ℕ) → Nearer l t s (deleted n s) 0
+  deleting : (n : ℕ) → n ≤ 20 → 1 ≤ slice s l → Nearer l t s (deleted n s) 0
   unfolding deleted counted
-  deleting n = let a = telling Deleted n in record { steady = a .steady; falls = a .falls }
+  deleting n most some = let a = telling Deleted n most some in record { steady = a .steady; falls = a .falls }
 
-  telling-flag : (f : ℕ) (w : News) (a b : ℕ) → Nearer l t s (toldFlag f w a b s) 0
+  telling-flag : (f : ℕ) (w : News) (a b : ℕ) → 1 ≤ f → f ≤ 8 → 1 ≤ slice s l → Nearer l t s (toldFlag f w a b s) 0
   unfolding toldFlag flagged
-  telling-flag f w a b = let z = telling w (flagRow f) in record { steady = z .steady; falls = z .falls }
-
-  slicing : (j v : ℕ) → (j ≡ l → ⊥) → Nearer l t s (sliced j v s) 0
-  unfolding sliced
-  slicing j v other = record {
-    steady = getD-set-other (s .numbers .slices) j l v 0 (λ z. other (sym z));
-    falls = rw (getD-set-other (s .numbers .charges) j l 0 0 (λ z. other (sym z))) (omega arith);
-  }
+  telling-flag f w a b low most some = let z = telling w (flagRow f) (omega (arith, flag-row f low most)) some in record { steady = z .steady; falls = z .falls }
 
   ticking : 1 ≤ slice s l → 1 ≤ place (level s l) t → Nearer l t s (ticked s) (one (eqb (levelOf (task s (running s))) l && not (eqb (slice s l) 0)))
   unfolding ticked running
-  ticking some behind = nearer-then (record { steady = a .steady; falls = a .falls }) (nearer-still (still-lapsed on-levels l t (low s k l t h e) 24 1 z (λ _. aging) stands) (numbers-lapsed 24 1 z))
+  ticking some behind = nearer-then (record { steady = a .steady; falls = a .falls }) (still-lapsed steady 24 1 z (omega arith) (omega arith) (λ _. aging) stands (sound-orderly after) (rw (a .steady) some) .1)
     where
       n : ℕ
       n = (time s + 1) % 2 ^ 32
@@ -85,18 +93,19 @@ module _ (s : State) (k : Sound s) (l t : ℕ) (h : 1 ≤ l) (e : levelOf (task 
       a : Nearer l t (withTime n s) z (one (eqb (levelOf (task s (running s))) l && not (eqb (slice s l) 0)))
       a = nearer-charged (withTime n s) (sound-withTime s n k) l t h e some behind
 
-      at : task z t ≡ task s t
-      at = rw (tasks-charged (withTime n s) (running s) .0)
+      after : Sound z
+      after = sound-charged (withTime n s) (sound-withTime s n k) (running s) (λ runs. let r = runner s k runs in (r .level, r .first))
 
       stands : levelOf (task z t) ≡ l
-      stands = rw at e
+      stands = only-charged (withTime n s) (running s) .records (λ y. levelOf y ≡ l) t (λ c. level-charge (task s t) c ∙ e)
 
       aging : levelOf (aged (task z t)) ≡ l
       aging = level-aged (task z t) (omega (arith, stands)) ∙ stands
 
   -- its own record, if it is the one that changes, keeps its level
-  staying : (u : ℕ) (x : Task) → levelOf (task (moved u x s) t) ≡ l → Nearer l t s (moved u x s) 0
-  staying u x after = moving u x (λ z. ap levelOf (sym (ap (λ i. task (moved i x s) t) z ∙ task-moved s t x (long s k l t h e))) ∙ after)
+  staying : (u : ℕ) (x : Task) → (1 ≤ u) × (u ≤ 24) → levelOf (task (moved u x s) t) ≡ l → 1 ≤ slice s l → Nearer l t s (moved u x s) 0
+  staying u x r after = moving u x (r .0) (r .1)
+      (λ z. sym (level-charge x (settled (task s t) x .charge)) ∙ ap levelOf (sym (ap (λ i. task (moved i x s) t) z ∙ task-moved s t x (long s k l t h e))) ∙ after)
 
   -- what a tick charged to l counts for
   abbrev counts : Kind → ℕ
@@ -106,20 +115,21 @@ module _ (s : State) (k : Sound s) (l t : ℕ) (h : 1 ≤ l) (e : levelOf (task 
       → Nearer l t s (carried s x) (counts j)
   unfolding carried ticked counted flagged
   nearer-done Ways.ticks spared after some behind = ticking some behind
-  nearer-done (Ways.exits runs) spared after some behind = stopping (running s) (runs-not s k l t h e behind)
-  nearer-done (Ways.terminates u low top made) spared after some behind = stopping u (λ z. spared .alive (ap Kinds.terminate z))
-  nearer-done (Ways.forces u low top waits) spared after some behind = ending u released
-  nearer-done (Ways.slices i v low top) spared after some behind = slicing i v (λ z. spared .unset (ap setSlice z))
-  nearer-done (Ways.serves n made first) spared after some behind = ending (firstOf (s .waits) n) served
+  nearer-done (Ways.exits runs) spared after some behind = let r = runner s k runs in stopping (running s) (r .low) (r .top) (runs-not s k l t h e behind) some
+  nearer-done (Ways.terminates u low top made) spared after some behind = stopping u low top (λ z. spared .alive (ap Kinds.terminate z)) some
+  nearer-done (Ways.forces u low top waits) spared after some behind = ending u released low top some
+  nearer-done (Ways.slices i v low top) spared after some behind = nearer-sliced s k l t h e i v (λ z. spared .unset (ap setSlice z))
+  nearer-done (Ways.serves n made first) spared after some behind =
+      ending (firstOf (s .waits) n) served first (waiter-in s k (firstOf (s .waits) n) (omega (arith, made .low, first-waits s k n (omega (arith, made .top)) first)) .1) some
   nearer-done (Ways.raises n made free less) spared after some behind = record { steady = refl; falls = omega arith }
-  nearer-done (Ways.deletes n made) spared after some behind = deleting n
+  nearer-done (Ways.deletes n made) spared after some behind = deleting n (omega (arith, made .top)) some
   nearer-done Ways.keeps spared after some behind = same
-  nearer-done (Ways.moves u x n c) spared after some behind = staying u x after
-  nearer-done (Ways.waits w runs b) spared after some behind = staying (running s) (waiting (task s (running s)) w) after
+  nearer-done (Ways.moves u x n c) spared after some behind = staying u x (named-in k n) after some
+  nearer-done (Ways.waits w runs b) spared after some behind = let r = runner s k runs in staying (running s) (waiting (task s (running s)) w) (r .low, r .top) after some
   nearer-done (Ways.creates n c v low top fits more few free) spared after some behind = record { steady = refl; falls = omega arith }
   nearer-done (Ways.takes n made left i) spared after some behind = record { steady = refl; falls = omega arith }
   nearer-done (Ways.flags f a b r) spared after some behind = record { steady = refl; falls = omega arith }
-  nearer-done (Ways.tells f w a b made r) spared after some behind = telling-flag f w a b
+  nearer-done (Ways.tells f w a b made r) spared after some behind = telling-flag f w a b (made .low) (made .top) some
 
   pub nearer : {j : Kind} {i : Entry} {p : Plan} → Way s j i p → (So (not (isRefusal (p .code))) → Spared l t j) → levelOf (task (carried s (p .effect)) t) ≡ l → 1 ≤ slice s l → 1 ≤ place (level s l) t
       → Nearer l t s (carried s (p .effect)) (one (not (isRefusal (p .code)) && (isTick j && (eqb (levelOf (task s (running s))) l && not (eqb (slice s l) 0)))))

@@ -17,8 +17,8 @@ use Rattle.model.specs.declared.Code.{Code}
 use Rattle.model.specs.declared.Code.the-variants.{NoErr}
 use Rattle.model.specs.declared.Effect.the-variants.{Moves, Deletes, Ticks, Tells}
 use Rattle.model.specs.Row.{place, first, left, row, firstOf, relisted}
-use Rattle.model.specs.Task.{nothing, served, timeout, dlt, released, rowOf, waiting, ended, aged}
-use Rattle.model.specs.State.{task, count, time, maximum, waiters, running, moved, counted, flagged, sliced, withTime}
+use Rattle.model.specs.Task.{nothing, served, timeout, dlt, released, rowOf, waiting, ended, settled, aged}
+use Rattle.model.specs.State.{task, count, time, maximum, waiters, running, moved, counted, flagged, sliced, recharged, withTime}
 use Rattle.model.specs.Code.{waitNumber, isRefusal}
 use Rattle.model.specs.Effect.{toldAll, deleted, toldFlag, charged, lapsed, ticked, carried}
 use Rattle.model.specs.Test.{one, occ}
@@ -26,25 +26,25 @@ use Rattle.model.specs.Sound.{Sound}
 use Rattle.laws.proofs.Number.{same?}
 use Rattle.laws.proofs.Relisted.{row-relisted-from}
 use Rattle.laws.proofs.Occ.{one-eq, one-ne, one-not}
-use Rattle.laws.proofs.Record.{row-waits, flag-row}
+use Rattle.laws.proofs.Record.{row-waits, row-charge, flag-row}
 use Rattle.soundness.proofs.Listed.{key-of, listed-in}
-use Rattle.soundness.proofs.Told.{waiter-in, first-waits, no-waiter}
+use Rattle.soundness.proofs.Told.{waiter-in, first-waits, queued-in, no-waiter}
 use Rattle.soundness.proofs.Running.{runner}
 use Rattle.soundness.proofs.Changed.{change-row}
 use Rattle.ways.specs.Kind as Kinds
 use Rattle.ways.specs.Kind.{Kind, forcedRelease, release, deletion, isReleaseOf}
 use Rattle.ways.specs.Entry.{Entry}
-use Rattle.soundness.proofs.Moved.{task-moved}
+use Rattle.soundness.proofs.Moved.{task-moved, task-recharged}
 use Rattle.turns.specs.Statements.{Ended}
 use Rattle.turns.proofs.Places.{place-served}
 use Rattle.ways.proofs.Done.{Done, Way, refuses, accepts}
 use Rattle.ways.proofs.Done.{Done as Ways}
 use Rattle.turns.proofs.Ends.{lapsed-at, aged-waits, stopped-at, ended-at}
-use Rattle.turns.proofs.Still.{tasks-charged, Keyed, Still, still-same, still-then, still-moved, still-stopped, still-told, still-lapsed}
+use Rattle.turns.proofs.Still.{Charged, only-charged, Steady, Keyed, Still, in-table, still-moved, still-stopped, still-told, still-lapsed}
 
 on-waits : Keyed rowOf (λ s. s .waits)
 unfolding moved
-on-waits = record { relists = λ s u x. refl }
+on-waits = record { relists = λ s u x. refl; unlisted = row-charge }
 
 -- ---- what a call does to t, which waits on m
 pub data Outcome (s : State) (m t : ℕ) (k : Kind) (c : Code) (x : Effect) : Type 0 where
@@ -63,16 +63,19 @@ module _ (s : State) (k : Sound s) (m t : ℕ) (h : 1 ≤ m) (top : m ≤ 12) (e
   long : t < length (s .tasks)
   long = omega (arith, k .tasks#, waiter-in s k t (omega arith) .1)
 
+  waiting-on : Steady rowOf m t (Still rowOf (λ z. z .waits) m t)
+  waiting-on = in-table on-waits m t low
+
   -- it goes on waiting
   on : {j : Kind} {c : Code} {x : Effect} → Still rowOf (λ z. z .waits) m t s (carried s x) → one (not (isRefusal c) && isReleaseOf m j) ≡ 0 → Outcome s m t j c x
   on a z = waits (a .keyed) (omega (arith, a .nearer))
 
   same : Still rowOf (λ z. z .waits) m t s s
-  same = still-same on-waits m t low s e
+  same = waiting-on .same s e
 
-  -- where the tables of waiters and tasks stay as they are
-  untouched : (z : State) → z .tasks ≡ s .tasks → z .waits ≡ s .waits → Still rowOf (λ z. z .waits) m t s z
-  untouched z a b = record { keyed = rw a e; nearer = rw b (omega arith) }
+  -- where the table of waiters and its own wait stay as they are
+  untouched : (z : State) → rowOf (task z t) ≡ rowOf (task s t) → z .waits ≡ s .waits → Still rowOf (λ z. z .waits) m t s z
+  untouched z a b = record { keyed = a ∙ e; nearer = rw b (omega arith) }
 
   -- another's record changes, or t's own with the same wait
   moving : (u : ℕ) (x : Task) → (u ≡ t → rowOf x ≡ m) → Still rowOf (λ z. z .waits) m t s (moved u x s)
@@ -84,7 +87,7 @@ module _ (s : State) (k : Sound s) (m t : ℕ) (h : 1 ≤ m) (top : m ≤ 12) (e
   -- its own wait ends
   over : (u v : ℕ) → u ≡ t → Ended (moved u (ended (task s u) v 0) s) t (waitNumber v)
   over u v z =
-      let y : task (moved u (ended (task s u) v 0) s) t ≡ ended (task s t) v 0 = ap (λ i. task (moved i (ended (task s i) v 0) s) t) z ∙ task-moved s t (ended (task s t) v 0) long in
+      let y : task (moved u (ended (task s u) v 0) s) t ≡ settled (task s t) (ended (task s t) v 0) = ap (λ i. task (moved i (ended (task s i) v 0) s) t) z ∙ task-moved s t (ended (task s t) v 0) long in
       record { over = rw y; code = rw y }
 
   -- the first of its queue is served
@@ -116,7 +119,7 @@ module _ (s : State) (k : Sound s) (m t : ℕ) (h : 1 ≤ m) (top : m ≤ 12) (e
 
   -- those in another row are told
   others : (w : News) (n : ℕ) → n ≤ 20 → (n ≡ m → ⊥) → Still rowOf (λ z. z .waits) m t s (toldAll w (waiters s n) s)
-  others w n most apart = still-told on-waits m t low w (waiters s n) s
+  others w n most apart = still-told waiting-on w (waiters s n) s (queued-in s k n most)
       (λ there. absurd (apart (sym (key-of (s .waits) 21 (λ i. rowOf (task s i)) (k .waits) n t (omega arith) low there .1) ∙ e))) e
 
   deleting : (n : ℕ) → 1 ≤ n → n ≤ 12 → Outcome s m t (deletion n) NoErr (Deletes n)
@@ -139,21 +142,24 @@ module _ (s : State) (k : Sound s) (m t : ℕ) (h : 1 ≤ m) (top : m ≤ 12) (e
 
   ticking : Outcome s m t Kinds.tick NoErr Ticks
   unfolding carried ticked
-  ticking = go (aged-waits (task s t) m h e)
+  ticking = go (aged-waits (task z t) m h at)
     where
       z : State
       z = charged (running s) (withTime ((time s + 1) % 2 ^ 32) s)
 
-      kept : (z .tasks ≡ s .tasks) × (z .waits ≡ s .waits)
-      kept = let a = tasks-charged (withTime ((time s + 1) % 2 ^ 32) s) (running s) in (a .0, a .1)
+      kept : Charged (withTime ((time s + 1) % 2 ^ 32) s) z
+      kept = only-charged (withTime ((time s + 1) % 2 ^ 32) s) (running s)
 
-      at : task z t ≡ task s t
-      at = rw (kept .0)
+      row : rowOf (task z t) ≡ rowOf (task s t)
+      row = kept .records (λ y. rowOf y ≡ rowOf (task s t)) t (row-charge (task s t))
 
-      go : (rowOf (aged (task s t)) ≡ m) ⊎ ((aged (task s t) .wait .kind ≡ nothing) × (aged (task s t) .code ≡ timeout)) → Outcome s m t Kinds.tick NoErr Ticks
-      go (inl w) = on (still-then on-waits m t low (untouched z (kept .0) (kept .1)) (still-lapsed on-waits m t low 24 1 z (λ _. rw at w) (rw at e))) refl
+      at : rowOf (task z t) ≡ m
+      at = row ∙ e
+
+      go : (rowOf (aged (task z t)) ≡ m) ⊎ ((aged (task z t) .wait .kind ≡ nothing) × (aged (task z t) .code ≡ timeout)) → Outcome s m t Kinds.tick NoErr Ticks
+      go (inl w) = on (waiting-on .then (untouched z row (kept .waits)) (still-lapsed waiting-on 24 1 z (omega arith) (omega arith) (λ _. w) at)) refl
       go (inr w) =
-          let y : task (lapsed 24 1 z) t ≡ aged (task s t) = lapsed-at 24 1 z t (rw (kept .0) long) low (omega (arith, waiter-in s k t (omega arith))) ∙ ap aged at in
+          let y : task (lapsed 24 1 z) t ≡ settled (task z t) (aged (task z t)) = lapsed-at 24 1 z t (omega (arith, kept .tasks#, long)) low (omega (arith, waiter-in s k t (omega arith))) in
           lapses tt refl (record { over = rw y (w .0); code = rw y (ap waitNumber (w .1)) })
 
   -- a record changes, and with it no wait on a semaphore
@@ -167,16 +173,16 @@ module _ (s : State) (k : Sound s) (m t : ℕ) (h : 1 ≤ m) (top : m ≤ 12) (e
   outcome-done : {j : Kind} {i : Entry} {c : Code} {x : Effect} → Done s j i c x → Outcome s m t j c x
   unfolding carried counted flagged sliced
   outcome-done Ways.ticks = ticking
-  outcome-done (Ways.exits some) = on (still-stopped on-waits m t low s (running s) (λ z. runs-idle some (rw z (omega arith))) e) refl
+  outcome-done (Ways.exits some) = let r = runner s k some in on (still-stopped waiting-on s (running s) (r .low) (r .top) (λ z. runs-idle some (rw z (omega arith))) e) refl
   outcome-done (Ways.terminates u some most made) = ⊎-elim
       (λ (z : u ≡ t). stops tt (ap Kinds.terminate z) (rw z (stopped-at s t long)))
-      (λ (apart : u ≡ t → ⊥). on (still-stopped on-waits m t low s u apart e) refl)
+      (λ (apart : u ≡ t → ⊥). on (still-stopped waiting-on s u some most apart e) refl)
       (same? u t)
   outcome-done (Ways.forces u some most waited) = ⊎-elim
       (λ (z : u ≡ t). forced tt (ap forcedRelease z) (over u released z))
       (λ (apart : u ≡ t → ⊥). on (moving u (ended (task s u) released 0) (λ z. absurd (apart z))) refl)
       (same? u t)
-  outcome-done (Ways.slices l v some most) = on (untouched (sliced l v s) refl refl) refl
+  outcome-done (Ways.slices l v some most) = on (untouched (sliced l v s) (task-recharged (λ y. rowOf y ≡ rowOf (task s t)) s (firstOf (s .levels) l) 0 t (row-charge (task s t))) (unfold recharged in refl)) refl
   outcome-done (Ways.serves n made some) = serving n (made .top) some
   outcome-done (Ways.raises n made free less) =
       on (untouched (counted n (count s n + 1) (maximum s n) s) refl refl) (one-ne n m (λ y. no-waiter s k m h (omega arith) (rw y at free) t e))

@@ -12,29 +12,31 @@ use Rattle.model.specs.declared.State.{State}
 use Rattle.model.specs.declared.Context.{Context}
 use Rattle.model.specs.declared.Call.{Call}
 use Rattle.model.specs.Row.{place}
-use Rattle.model.specs.State.{task, slice, charge, level}
+use Rattle.model.specs.State.{task, slice, level}
 use Rattle.model.specs.Task.{levelOf}
 use Rattle.model.specs.Call.{step}
 use Rattle.model.specs.Test.{one}
 use Rattle.model.specs.Sound.{Sound}
 use Rattle.laws.proofs.Number.{same?}
+use Rattle.soundness.proofs.Orderly.{sound-orderly}
 use Rattle.soundness.proofs.Soundness.{sound-stays-sound}
 use Rattle.turns.specs.Statements as Say
 use Rattle.turns.specs.Statements.{next, isCharged, charges, IsFirst, StaysRunnable, NotTerminated, KeepsPriority, SliceNotSet, Each, none, each, FirstBy, TurnsComeRound}
 use Rattle.turns.proofs.Places.{place-first}
 use Rattle.ways.proofs.Ways.{way}
-use Rattle.turns.proofs.Levels.{level-runnable, level-some, Nearer}
-use Rattle.turns.proofs.Charged.{listed}
+use Rattle.turns.proofs.Levels.{level-runnable, level-some}
+use Rattle.turns.proofs.Moving.{used, used-below, Nearer}
+use Rattle.turns.proofs.Charged.{listed, top}
 use Rattle.turns.proofs.Nearer.{nearer}
 
 module _ (l t : ℕ) (h : 1 ≤ l) where
   is-first : (s : State) → Sound s → levelOf (task s t) ≡ l → place (level s l) t ≡ 0 → IsFirst s l t
   is-first s k e z = place-first (level s l) t (omega (arith, listed s k l t h e)) z
 
-  -- who is not first is a whole slice behind, and the charge is below the slice
-  behind : (s : State) → Sound s → (place (level s l) t ≡ 0 → ⊥) → 1 ≤ slice s l → place (level s l) t * slice s l ≤ charge s l → ⊥
-  behind s k far some less =
-      let below : charge s l < slice s l = ⊎-elim (λ c. c) (λ c. absurd (omega arith)) (k .rates .charges l) in
+  -- who is not first is a whole slice behind, and the first's charge is below the slice
+  behind : (s : State) → Sound s → levelOf (task s t) ≡ l → (place (level s l) t ≡ 0 → ⊥) → 1 ≤ slice s l → place (level s l) t * slice s l ≤ used s l → ⊥
+  behind s k e far some less =
+      let below : used s l < slice s l = used-below l t h (top s k l t h e) s (sound-orderly k) e some in
       omega (arith, mul-le-mul-right {m = 1} {n = place (level s l) t} (slice s l) (omega arith))
 
   per-call : (s : State) → Sound s → levelOf (task s t) ≡ l → (a : Context × Call) → levelOf (task (next step s a) t) ≡ l → NotTerminated step t s a → SliceNotSet step l s a
@@ -43,14 +45,14 @@ module _ (l t : ℕ) (h : 1 ≤ l) where
   per-call s k e a after alive unset some far = nearer s k l t h e (way s (a .0) (a .1))
       (λ ok. record { alive = λ z. alive (record { accepted = ok; is = z }); unset = λ z. unset (record { accepted = ok; is = z }) }) after some far
 
-  -- place * slice is at most the ticks left and the charge
+  -- place * slice is at most the ticks left and the charge of the first
   first-by : (calls : List (Context × Call)) (s : State) (n : ℕ) → Sound s → levelOf (task s t) ≡ l → 1 ≤ slice s l
       → Each step (StaysRunnable step t) s calls → Each step (NotTerminated step t) s calls → Each step (KeepsPriority step t l) s calls → Each step (SliceNotSet step l) s calls
-      → place (level s l) t * slice s l ≤ n + charge s l → n ≤ charges step s calls l → FirstBy step l t n s calls
+      → place (level s l) t * slice s l ≤ n + used s l → n ≤ charges step s calls l → FirstBy step l t n s calls
   unfolding charges
   first-by [] s n k e some none none none none turn enough = ⊎-elim
       (λ (z : place (level s l) t ≡ 0). Say.first (is-first s k e z))
-      (λ (far : place (level s l) t ≡ 0 → ⊥). absurd (behind s k far some (omega arith)))
+      (λ (far : place (level s l) t ≡ 0 → ⊥). absurd (behind s k e far some (omega arith)))
       (same? (place (level s l) t) 0)
   first-by (a ∷ rest) s n k e some (each runs allRun) (each alive allAlive) (each kept allKept) (each unset allUnset) turn enough = ⊎-elim
       (λ (z : place (level s l) t ≡ 0). Say.first (is-first s k e z))
@@ -61,10 +63,10 @@ module _ (l t : ℕ) (h : 1 ≤ l) where
       (same? (place (level s l) t) 0)
     where
       goes : (b : Bool) → isCharged step s a l ≡ b → (n : ℕ) → Nearer l t s (next step s a) (one b) → (place (level s l) t ≡ 0 → ⊥)
-          → place (level s l) t * slice s l ≤ n + charge s l → n ≤ one b + charges step (next step s a) rest l
-          → ((j : ℕ) → 1 ≤ slice (next step s a) l → place (level (next step s a) l) t * slice (next step s a) l ≤ j + charge (next step s a) l → j ≤ charges step (next step s a) rest l → FirstBy step l t j (next step s a) rest)
+          → place (level s l) t * slice s l ≤ n + used s l → n ≤ one b + charges step (next step s a) rest l
+          → ((j : ℕ) → 1 ≤ slice (next step s a) l → place (level (next step s a) l) t * slice (next step s a) l ≤ j + used (next step s a) l → j ≤ charges step (next step s a) rest l → FirstBy step l t j (next step s a) rest)
           → FirstBy step l t n s (a ∷ rest)
-      goes b y zero d far turn enough more = absurd (behind s k far some (omega arith))
+      goes b y zero d far turn enough more = absurd (behind s k e far some (omega arith))
       goes true y (suc n) d far turn enough more =
           let r : So (isCharged step s a l) = rw y tt in
           Say.charged r (more n (rw (d .steady) some) (rw (d .steady) (omega (arith, d .falls))) (omega arith))
