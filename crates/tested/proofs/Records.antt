@@ -146,10 +146,6 @@ says-task x = says-as
     (says-blank x))
 
 -- ---- the queues that list it
-pub level-none : levelOf noTask ≡ 0
-unfolding levelOf
-level-none = refl
-
 module _ (x : Task) (h : SoundTask x) where
   pub level-most : levelOf x ≤ 30
   unfolding levelOf

@@ -17,11 +17,11 @@ use Rattle.model.specs.Plan.{isSlice}
 use Rattle.model.specs.Test.{listsExactly, isTaskSound, isChargeOf, isCountSound, isFlagSound, isUnmet, isSized, isOrigin, isSound}
 use Rattle.model.specs.Sound.{Lists, SoundTask, SoundCharge, Sound}
 use Rattle.laws.proofs.Number.{same?}
-use Rattle.laws.proofs.Record.{sound-none, row-none, row-most, flag-row, flag-none, row-flag, flag-waits}
+use Rattle.laws.proofs.Record.{sound-none, level-none, row-none, row-most, flag-row, flag-none, row-flag, flag-waits}
 use Rattle.laws.proofs.Says.{Says, says-as, says-same, says-eq, says-le, says-and, says-below, everywhere}
 use Rattle.tested.specs.Statements.{SoundExactly}
 use Rattle.tested.proofs.Numbers.{Counted, Flagged, Unmet, says-charge, says-count, says-flag, says-unmet}
-use Rattle.tested.proofs.Records.{says-blank, says-task, level-none, level-most}
+use Rattle.tested.proofs.Records.{says-blank, says-task, level-most}
 use Rattle.tested.proofs.Listed.{Queues, Listed, says-queues, lists-of-test, test-of-lists, first-listed, listed-first, second-alone, alone-second}
 
 -- ---- what the test of a state says, in its own order

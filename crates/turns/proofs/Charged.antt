@@ -25,7 +25,7 @@ use Rattle.soundness.proofs.Listed.{key-first}
 use Rattle.soundness.proofs.Orderly.{Orderly, sound-orderly, task-in}
 use Rattle.soundness.proofs.Running.{Runner, runner}
 use Rattle.turns.proofs.Places.{first-place, place-turned}
-use Rattle.turns.proofs.Levels.{level-top}
+use Rattle.tested.proofs.Records.{level-most}
 use Rattle.turns.proofs.Moving as Moving
 use Rattle.turns.proofs.Moving.{used, used-below, first-level, Nearer}
 
@@ -34,7 +34,7 @@ module _ (s : State) (k : Sound s) (l t : ℕ) (h : 1 ≤ l) (e : levelOf (task 
   order = sound-orderly k
 
   pub top : l ≤ 30
-  top = omega (arith, level-top (task s t) (k .tasks t) (omega arith))
+  top = omega (arith, level-most (task s t) (k .tasks t))
 
   pub low : 1 ≤ t
   low = Moving.low l t h top s order e

@@ -17,7 +17,7 @@ use Rattle.model.proofs.Words.{opened}
 use Rattle.soundness.specs.Statements.{reached}
 use Rattle.soundness.proofs.Soundness.{fresh-is-sound, reached-is-sound}
 use Rattle.ways.specs.Kind.{terminate, setSlice}
-use Rattle.turns.specs.Statements.{placeIn, releases, Ended, HoldsBy, charges, Each, none, each, FirstBy, StaysRunnable, NotTerminated, KeepsPriority, SliceNotSet}
+use Rattle.turns.specs.Statements.{placeIn, Ended, HoldsBy, charges, Each, none, each, FirstBy, StaysRunnable, NotTerminated, KeepsPriority, SliceNotSet}
 use Rattle.turns.proofs.Words.{byTask, byInterrupt, aTick}
 use Rattle.turns.proofs.Served.{waiters-are-served}
 use Rattle.turns.proofs.Turns.{turns-come-round}

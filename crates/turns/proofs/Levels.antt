@@ -3,7 +3,6 @@
 use mathlib.Core.Path.{_≡_, refl}
 use mathlib.Core.Bool.{Bool, true, false, cond, not, _&&_}
 use Prim.Native.Nat.{ℕ, _-_, _≤_}
-use native.Mathlib.Omega.{arith}
 use lib.Dec.{T as So, eqb}
 use Rattle.model.specs.declared.Task.{Task}
 use Rattle.model.specs.declared.News.{News}
@@ -13,7 +12,7 @@ use Rattle.model.specs.Task.{isDormant, isSuspended, isWaiting, isRunnable, isT
 use Rattle.model.specs.Sound.{SoundTask}
 use Rattle.laws.proofs.Padded.{both}
 use Rattle.ways.proofs.Tests.{some-of}
-use Rattle.soundness.proofs.Records.{level-live, level-priority, live-made}
+use Rattle.soundness.proofs.Records.{level-live, live-made}
 
 pub level-runnable : (x : Task) (l : ℕ) → So (isRunnable x) → x .priority ≡ l → levelOf x ≡ l
 unfolding levelOf
@@ -26,9 +25,6 @@ level-runnable x l h e = go (isRunnable x) h
 -- a runnable task has a level
 pub level-some : (x : Task) → SoundTask x → So (isRunnable x) → 1 ≤ x .priority
 level-some x k h = k .priority (live-made x k (some-of (x .active) .yields (both (not (isDormant x)) (not (isSuspended x) && not (isWaiting x)) h .0))) .0
-
-pub level-top : (x : Task) → SoundTask x → 1 ≤ levelOf x → levelOf x ≤ 30
-level-top x k h = omega (arith, level-priority x h, k .priority (live-made x k (level-live x h .0)))
 
 -- a runnable task waits for nothing, so the end of a wait, news and a tick leave it in its level
 pub level-ended : (x : Task) (v b : ℕ) → 1 ≤ levelOf x → levelOf (ended x v b) ≡ levelOf x

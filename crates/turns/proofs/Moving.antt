@@ -9,7 +9,7 @@ use borrow.Author.Tests.{eq-eqb}
 use Rattle.model.specs.declared.Task.{Task}
 use Rattle.model.specs.declared.State.{State}
 use Rattle.model.specs.Row.{place, left, firstOf}
-use Rattle.model.specs.Task.{levelOf, settled}
+use Rattle.model.specs.Task.{levelOf}
 use Rattle.model.specs.State.{task, slice, level, moved}
 use Rattle.model.specs.Sound.{at}
 use Rattle.model.specs.Test.{occ}
