@@ -1,5 +1,5 @@
-// The bench cases that are run and not computed: case 4, whose wait ends at tick 65,535, and case 13.
-// Each goes through the public call; what it prints is compared with the file beside src/. Rests on the kernel.
+// The bench cases that are run: case 4, whose wait ends at tick 65,535 and is not computed, and case 13, where a first that sleeps leaves
+// the next its whole slice. Each goes through the public call; what it prints is compared with the file beside src/. Rests on the kernel.
 use libc::STDOUT_FILENO;
 use model::Call;
 use model::Context;
@@ -124,7 +124,7 @@ fn case_4() {
     say(b"case 4: task 2 has ticks left ", remaining(after, 2));
 }
 
-// Level 6 with slice 3: two ticks, task 1 sleeps, one more tick.
+// Level 6 with slice 3: two ticks, task 1 sleeps, and task 2 has three ticks of its own.
 fn case_13() {
     let sliced = asked(kernel::fresh(), Call::SysTsliceTicks { level: 6, slice: 3 });
     let one = asked(
@@ -155,7 +155,12 @@ fn case_13() {
     say(b"case 13: after tick 2 runs ", running(charged));
     let slept = asked(charged, Call::TaskSleep { timeout: 100 });
     say(b"case 13: after the sleep runs ", running(slept));
-    say(b"case 13: after tick 3 runs ", running(ticked(slept, 1)));
+    let third = ticked(slept, 1);
+    say(b"case 13: after tick 3 runs ", running(third));
+    let fourth = ticked(third, 1);
+    say(b"case 13: after tick 4 runs ", running(fourth));
+    let fifth = ticked(fourth, 1);
+    say(b"case 13: after tick 5 runs ", running(fifth));
 }
 
 fn main() {

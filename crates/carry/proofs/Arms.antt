@@ -4,7 +4,7 @@ use mathlib.Core.Path.{_≡_, refl, sym, ap, _∙_}
 use mathlib.Core.Bool.{cond}
 use mathlib.Core.List.{List}
 use Prim.Native.Nat.{ℕ, _+_, _%_, _^_}
-use lib.ListN.{getD}
+use lib.ListN.{getD, set}
 use borrow.Author.Tests.{eq-eqb, ne-eqb}
 use Rattle.model.specs.declared.Task.{Task}
 use Rattle.model.specs.declared.Numbers.{Numbers}
@@ -13,10 +13,11 @@ use Rattle.model.specs.declared.News.{News}
 use Rattle.model.specs.declared.News.the-variants.{Deleted}
 use Rattle.model.specs.declared.Effect.{Effect}
 use Rattle.model.specs.declared.Effect.the-variants.{Nothing, Moves, Stops, Counts, Deletes, Slices, Ticks, Flags, Tells}
+use Rattle.model.specs.Row.{firstOf}
 use Rattle.model.specs.Flag.{flagRow}
-use Rattle.model.specs.Task.{dormant, activated}
-use Rattle.model.specs.State.{task, time, waiters, moved, movedFrom, counted, flagged, sliced, noted, ofSlices, ofCharges, ofCounts, ofMaxima, ofAttributes, ofBits, ofTime}
-use Rattle.model.specs.Effect.{stopped, deleted, toldFlag, toldAll, charged, chargedLevel, lapsed, tickedFrom, carriedFrom}
+use Rattle.model.specs.Task.{dormant, activated, withCharge}
+use Rattle.model.specs.State.{task, time, waiters, moved, movedFrom, counted, flagged, sliced, recharged, noted, ofSlices, ofCounts, ofMaxima, ofAttributes, ofBits, ofTime}
+use Rattle.model.specs.Effect.{stopped, deleted, toldFlag, toldAll, charged, chargedIn, lapsed, tickedFrom, carriedFrom}
 
 -- a state with other numbers
 abbrev with : State → Numbers → State
@@ -36,13 +37,13 @@ module _ (s : State) (t : ℕ) (k x : Task) (s₁ : State) (e : k ≡ task s t) 
   unfolding stopped
   starts y s₂ z f n = rw (← e, ne-eqb _ _ z) (rw (f, first, d, ← e) at n)
 
--- ---- the level of who runs
+-- ---- who runs is charged
 module _ (run : ℕ) (s : State) where
   pub idle : run ≡ 0 → s ≡ charged run s
   unfolding charged
   idle z = rw (eq-eqb _ _ z)
 
-  pub runs : (s₁ : State) (k : Task) → (run ≡ 0 → ⊥) → k ≡ task s run → s₁ ≡ chargedLevel (k .priority) s → s₁ ≡ charged run s
+  pub runs : (s₁ : State) (k : Task) → (run ≡ 0 → ⊥) → k ≡ task s run → s₁ ≡ chargedIn (k .priority) run s → s₁ ≡ charged run s
   unfolding charged
   runs s₁ k z e f = rw (ne-eqb _ _ z, ← e) f
 
@@ -65,9 +66,10 @@ module _ (run : ℕ) (e : Effect) (s : State) where
   unfolding counted
   counts m n v x y f a b = rw (f, b, a)
 
-  pub slices : (l v : ℕ) (x y : Numbers) → e ≡ Slices l v → x ≡ noted ofSlices l v (s .numbers) → y ≡ noted ofCharges l 0 x → with s y ≡ carriedFrom run s e
-  unfolding sliced
-  slices l v x y f a b = rw (f, b, a)
+  pub slices : (l v t : ℕ) (xs : List Task) (x : Numbers) → e ≡ Slices l v → t ≡ firstOf (s .levels) l → xs ≡ set (s .tasks) t (withCharge (task s t) 0) → x ≡ noted ofSlices l v (s .numbers)
+      → record { tasks = xs; levels = s .levels; waits = s .waits; numbers = x } ≡ carriedFrom run s e
+  unfolding sliced recharged
+  slices l v t xs x f d a b = rw (f, b, a, d)
 
   pub flags : (f a b : ℕ) (x y : Numbers) → e ≡ Flags f a b → x ≡ noted ofAttributes f a (s .numbers) → y ≡ noted ofBits f b x → with s y ≡ carriedFrom run s e
   unfolding flagged

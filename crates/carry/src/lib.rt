@@ -10,9 +10,11 @@ use model::News;
 use numbers::NumberTable;
 use queues::Levels;
 use queues::Waits;
+use queues::lent::first_of_level;
 use queues::lent::waiters;
 use stored::Bytes;
 use stored::Words;
+use stored::put_charge;
 use stored::record_at;
 
 // ---- one task becomes dormant, and runnable again at once where an activation is counted
@@ -37,13 +39,13 @@ fn stop_task(
     move_task(bytes, words, levels, waits, numbers, t, y);
 }
 
-// ---- the running task's level is charged; 0 has none
+// ---- the running task is charged, in its level; 0 has none
 fn charge_running(
     bytes: &Bytes,
-    words: &Words,
+    words: &mut Words,
     levels: &mut Levels,
     waits: &Waits,
-    numbers: &mut NumberTable,
+    numbers: &NumberTable,
     run: u8,
 )
     ensures { λ r. ⌜ after bytes words levels waits numbers ≡ charged run (before bytes words levels waits numbers) ⌝ }
@@ -53,10 +55,10 @@ fn charge_running(
     }
     let k = record_at(bytes, words, run as usize);
     let level = k.priority as usize;
-    effects::charge(bytes, words, levels, waits, numbers, level);
+    effects::charge(bytes, words, levels, waits, numbers, level, run);
 }
 
-// ---- a tick, where `run` runs: time goes up by one, the level of who runs is charged, the timeouts fall
+// ---- a tick, where `run` runs: time goes up by one, who runs is charged, the timeouts fall
 pub fn tick(
     bytes: &mut Bytes,
     words: &mut Words,
@@ -106,8 +108,9 @@ pub fn carry(
             numbers::put_maximum(numbers, semaphore as usize, 0);
         }
         Effect::Slices { level, slice } => {
+            let first = first_of_level(levels, level as usize);
+            put_charge(bytes, words, first as usize, 0);
             numbers::put_slice(numbers, level as usize, slice);
-            numbers::put_charge(numbers, level as usize, 0);
         }
         Effect::Ticks => tick(bytes, words, levels, waits, numbers, run),
         Effect::Flags {

@@ -13,7 +13,7 @@ use Rattle.model.specs.declared.Task.{Task}
 use Rattle.model.specs.declared.State.{State}
 use Rattle.model.specs.declared.News.{News}
 use Rattle.model.specs.Row.{relisted}
-use Rattle.model.specs.Task.{noTask, levelOf, rowOf, aged, ended, told, ranOut, withRemaining, endless}
+use Rattle.model.specs.Task.{noTask, levelOf, rowOf, settled, aged, ended, told, ranOut, withRemaining, endless}
 use Rattle.model.specs.State.{moved, movedFrom, task}
 use Rattle.model.specs.Effect.{lapsed, toldAll}
 
@@ -22,11 +22,17 @@ kept : (ls : List Queue) (f g t : ℕ) → g ≡ f → relisted ls f g t ≡ ls
 unfolding relisted
 kept ls f g t e = rw (e, eq-eqb f f refl)
 
--- a record whose queues stay the same
-pub moved-kept : (s : State) (t : ℕ) (x : Task) → levelOf x ≡ levelOf (task s t) → rowOf x ≡ rowOf (task s t)
+-- the level stays, and so does the charge
+settled-kept : (k x : Task) → levelOf x ≡ levelOf k → x .charge ≡ k .charge → settled k x ≡ x
+settled-kept k x e f = rw (e, eq-eqb (levelOf k) (levelOf k) refl, ← f)
+
+-- a record whose queues and charge stay the same
+pub moved-kept : (s : State) (t : ℕ) (x : Task) → levelOf x ≡ levelOf (task s t) → rowOf x ≡ rowOf (task s t) → x .charge ≡ task s t .charge
     → moved t x s ≡ record { tasks = set (s .tasks) t x; levels = s .levels; waits = s .waits; numbers = s .numbers }
 unfolding moved
-moved-kept s t x e f = rw (kept (s .levels) (levelOf (task s t)) (levelOf x) t e, kept (s .waits) (rowOf (task s t)) (rowOf x) t f)
+moved-kept s t x e f g =
+    rw (kept (s .levels) (levelOf (task s t)) (levelOf x) t e, kept (s .waits) (rowOf (task s t)) (rowOf x) t f)
+    (ap (λ (y : Task). record { tasks = set (s .tasks) t y; levels = s .levels; waits = s .waits; numbers = s .numbers }) (settled-kept (task s t) x e g))
 
 -- k is the task's record
 pub moved-from : (s : State) (t : ℕ) (k x : Task) → k ≡ task s t → movedFrom t k x s ≡ moved t x s

@@ -4,7 +4,7 @@ ghost use mathlib.Core.Path.{_≡_};
 ghost use lib.ListN.{length};
 ghost use Rattle.model.specs.Task.{ranOut};
 ghost use Rattle.model.specs.State.{moved, movedFrom};
-ghost use Rattle.model.specs.Effect.{chargedLevel, lapsed, toldAll};
+ghost use Rattle.model.specs.Effect.{chargedIn, lapsed, toldAll};
 ghost use Rattle.tables.specs.Lent.{before, after};
 ghost use Rattle.effects.specs.Falling.{fallen, isDue, fallAll};
 use model::News;
@@ -21,6 +21,8 @@ use records::SLEEP;
 use records::TIMEOUT;
 use stored::Bytes;
 use stored::Words;
+use stored::charge_at;
+use stored::put_charge;
 use stored::put_record;
 use stored::put_remaining;
 use stored::record_at;
@@ -38,19 +40,17 @@ pub fn move_from(
 )
     ensures { λ r. ⌜ after bytes words levels waits numbers ≡ movedFrom t k x (before bytes words levels waits numbers) ⌝ }
 {
-    relist_levels(
-        levels,
-        records::level_of(k) as usize,
-        records::level_of(x) as usize,
-        t,
-    );
+    let from = records::level_of(k);
+    let to = records::level_of(x);
+    relist_levels(levels, from as usize, to as usize, t);
     relist_waits(
         waits,
         records::row_of(k) as usize,
         records::row_of(x) as usize,
         t,
     );
-    put_record(bytes, words, t as usize, x);
+    let settled = records::settled(k, x, from, to);
+    put_record(bytes, words, t as usize, settled);
 }
 
 pub fn move_task(
@@ -68,7 +68,7 @@ pub fn move_task(
     move_from(bytes, words, levels, waits, numbers, t, k, x);
 }
 
-// ---- one charged tick of a level
+// ---- one charged tick of a task in its level
 fn wide(x: u32) -> u64
     ensures { λ r. ⌜ r ≡ x ⌝ }
 {
@@ -77,24 +77,25 @@ fn wide(x: u32) -> u64
 
 pub fn charge(
     bytes: &Bytes,
-    words: &Words,
+    words: &mut Words,
     levels: &mut Levels,
     waits: &Waits,
-    numbers: &mut NumberTable,
+    numbers: &NumberTable,
     l: usize,
+    t: u8,
 )
-    ensures { λ r. ⌜ after bytes words levels waits numbers ≡ chargedLevel l (before bytes words levels waits numbers) ⌝ }
+    ensures { λ r. ⌜ after bytes words levels waits numbers ≡ chargedIn l t (before bytes words levels waits numbers) ⌝ }
 {
     let slice = numbers::slice_at(numbers, l);
-    let next = wide(numbers::charge_at(numbers, l)) + 1;
+    let next = wide(charge_at(bytes, words, t as usize)) + 1;
     if slice == 0 {
         return;
     }
     if next < wide(slice) {
-        numbers::put_charge(numbers, l, next as u32);
+        put_charge(bytes, words, t as usize, next as u32);
         return;
     }
-    numbers::put_charge(numbers, l, 0);
+    put_charge(bytes, words, t as usize, 0);
     turn_level(levels, l);
 }
 
@@ -126,7 +127,7 @@ fn fallen(n: u32) -> u32
 
 // Whether any timeout ends with the next tick. A slice tells the prover its length, an array behind a reference does not.
 fn is_due(words: &Words) -> bool
-    ensures { λ r. ⌜ (r ≡ isDue 24 1 (now (words .entry))) × (length (now (words .entry)) ≡ 75) ⌝ }
+    ensures { λ r. ⌜ (r ≡ isDue 24 1 (now (words .entry))) × (length (now (words .entry)) ≡ 100) ⌝ }
 {
     let w: &[u32] = words;
     let mut due = false;

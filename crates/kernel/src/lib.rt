@@ -29,7 +29,6 @@ pub fn fresh() -> State
     let empty = Queue { places: [0u8; 24] };
     let numbers = Numbers {
         slices: [0u32; 31],
-        charges: [0u32; 31],
         counts: [0u32; 13],
         maxima: [0u32; 13],
         attributes: [0u32; 9],
@@ -83,10 +82,10 @@ pub fn call(s: State, c: Context, a: Call) -> Answer
     ensures { λ r. ⌜ r ≡ call s c a ⌝ }
 {
     let mut bytes = [0u8; 300];
-    let mut words = [0u32; 75];
+    let mut words = [0u32; 100];
     let mut levels = [0u8; 744];
     let mut waits = [0u8; 504];
-    let mut numbers = [0u32; 107];
+    let mut numbers = [0u32; 76];
     tables::spread(
         &mut bytes,
         &mut words,

@@ -63,26 +63,24 @@ pub copy-end : (r ns : List ℕ) (n a i : ℕ) → length r ≡ n → a + n ≤ 
 copy-end r ns n a i e m h g = sym (take-all i r (omega arith)) ∙ g ∙ take-all i (part a n ns) (omega (arith, part-long a n ns m))
 
 -- ---- all of them
-pub spreads : (x : Numbers) (n₀ n₁ n₂ n₃ n₄ n₅ n₆ n₇ : List ℕ)
-    → length n₀ ≡ 107 → (n₁ ≡ sets n₀ 0 (x .slices)) × (length (x .slices) ≡ 31) → (n₂ ≡ sets n₁ 31 (x .charges)) × (length (x .charges) ≡ 31) → (n₃ ≡ sets n₂ 62 (x .counts)) × (length (x .counts) ≡ 13) → (n₄ ≡ sets n₃ 75 (x .maxima)) × (length (x .maxima) ≡ 13) → (n₅ ≡ sets n₄ 88 (x .attributes)) × (length (x .attributes) ≡ 9) → (n₆ ≡ sets n₅ 97 (x .bits)) × (length (x .bits) ≡ 9)
-    → n₇ ≡ stored 106 1 0 (x .time) n₆ → heldIn n₇ ≡ x
-spreads x n₀ n₁ n₂ n₃ n₄ n₅ n₆ n₇ h m₁ m₂ m₃ m₄ m₅ m₆ d₇ =
-    let room : 0 < length (part 106 1 n₀) = omega (arith, part-long 106 1 n₀ (omega arith)) in
-    rw (d₇, m₆ .0, m₅ .0, m₄ .0, m₃ .0, m₂ .0, m₁ .0) (simp (
+pub spreads : (x : Numbers) (n₀ n₁ n₂ n₃ n₄ n₅ n₆ : List ℕ)
+    → length n₀ ≡ 76 → (n₁ ≡ sets n₀ 0 (x .slices)) × (length (x .slices) ≡ 31) → (n₂ ≡ sets n₁ 31 (x .counts)) × (length (x .counts) ≡ 13) → (n₃ ≡ sets n₂ 44 (x .maxima)) × (length (x .maxima) ≡ 13) → (n₄ ≡ sets n₃ 57 (x .attributes)) × (length (x .attributes) ≡ 9) → (n₅ ≡ sets n₄ 66 (x .bits)) × (length (x .bits) ≡ 9)
+    → n₆ ≡ stored 75 1 0 (x .time) n₅ → heldIn n₆ ≡ x
+spreads x n₀ n₁ n₂ n₃ n₄ n₅ n₆ h m₁ m₂ m₃ m₄ m₅ d₆ =
+    let room : 0 < length (part 75 1 n₀) = omega (arith, part-long 75 1 n₀ (omega arith)) in
+    rw (d₆, m₅ .0, m₄ .0, m₃ .0, m₂ .0, m₁ .0) (simp (
       part-same,
       part-other,
       part-beside (x .slices) 31 (m₁ .1),
-      part-beside (x .charges) 31 (m₂ .1),
-      part-beside (x .counts) 13 (m₃ .1),
-      part-beside (x .maxima) 13 (m₄ .1),
-      part-beside (x .attributes) 9 (m₅ .1),
-      part-beside (x .bits) 9 (m₆ .1),
+      part-beside (x .counts) 13 (m₂ .1),
+      part-beside (x .maxima) 13 (m₃ .1),
+      part-beside (x .attributes) 9 (m₄ .1),
+      part-beside (x .bits) 9 (m₅ .1),
       part-put (x .slices) 31 (m₁ .1),
-      part-put (x .charges) 31 (m₂ .1),
-      part-put (x .counts) 13 (m₃ .1),
-      part-put (x .maxima) 13 (m₄ .1),
-      part-put (x .attributes) 9 (m₅ .1),
-      part-put (x .bits) 9 (m₆ .1),
+      part-put (x .counts) 13 (m₂ .1),
+      part-put (x .maxima) 13 (m₃ .1),
+      part-put (x .attributes) 9 (m₄ .1),
+      part-put (x .bits) 9 (m₅ .1),
       length-sets,
       h,
       getD-set-same,

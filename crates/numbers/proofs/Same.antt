@@ -14,24 +14,23 @@ split : (a k : ℕ) (n : List ℕ) → drop a n ≡ part a k n ++ drop (a + k) n
 unfolding part
 split a k n = sym (take-append-drop k (drop a n)) ∙ ap (λ (r : List ℕ). take k (drop a n) ++ r) (drop-drop k a n)
 
-last : (n : List ℕ) → length n ≡ 107 → drop 106 n ≡ getD (part 106 1 n) 0 0 ∷ []
+last : (n : List ℕ) → length n ≡ 76 → drop 75 n ≡ getD (part 75 1 n) 0 0 ∷ []
 last n h =
-    let e : drop 107 n ≡ [] = drop-of-length-le n {i = 107} (omega arith) in
-    drop-cons n 106 0 (omega arith) ∙ rw (e, part-at 106 1 0 n (omega arith))
+    let e : drop 76 n ≡ [] = drop-of-length-le n {i = 76} (omega arith) in
+    drop-cons n 75 0 (omega arith) ∙ rw (e, part-at 75 1 0 n (omega arith))
 
 -- the table, from the numbers by name
 abbrev tableOf : Numbers → List ℕ
-tableOf x = x .slices ++ (x .charges ++ (x .counts ++ (x .maxima ++ (x .attributes ++ (x .bits ++ (x .time ∷ []))))))
+tableOf x = x .slices ++ (x .counts ++ (x .maxima ++ (x .attributes ++ (x .bits ++ (x .time ∷ [])))))
 
-table-of : (n : List ℕ) → length n ≡ 107 → n ≡ tableOf (heldIn n)
+table-of : (n : List ℕ) → length n ≡ 76 → n ≡ tableOf (heldIn n)
 table-of n h =
     split 0 31 n ∙ ap (λ (r : List ℕ). part 0 31 n ++ r)
-    (split 31 31 n ∙ ap (λ (r : List ℕ). part 31 31 n ++ r)
-    (split 62 13 n ∙ ap (λ (r : List ℕ). part 62 13 n ++ r)
-    (split 75 13 n ∙ ap (λ (r : List ℕ). part 75 13 n ++ r)
-    (split 88 9 n ∙ ap (λ (r : List ℕ). part 88 9 n ++ r)
-    (split 97 9 n ∙ ap (λ (r : List ℕ). part 97 9 n ++ r)
-    (last n h))))))
+    (split 31 13 n ∙ ap (λ (r : List ℕ). part 31 13 n ++ r)
+    (split 44 13 n ∙ ap (λ (r : List ℕ). part 44 13 n ++ r)
+    (split 57 9 n ∙ ap (λ (r : List ℕ). part 57 9 n ++ r)
+    (split 66 9 n ∙ ap (λ (r : List ℕ). part 66 9 n ++ r)
+    (last n h)))))
 
-pub same-numbers : (n m : List ℕ) → length n ≡ 107 → length m ≡ 107 → heldIn n ≡ heldIn m → n ≡ m
+pub same-numbers : (n m : List ℕ) → length n ≡ 76 → length m ≡ 76 → heldIn n ≡ heldIn m → n ≡ m
 same-numbers n m h k e = table-of n h ∙ ap tableOf e ∙ sym (table-of m k)

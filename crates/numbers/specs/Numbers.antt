@@ -23,10 +23,9 @@ apart a n b k = leb (a + n) b || leb (b + k) a
 abbrev pub heldIn : List ℕ → Numbers
 heldIn ns = record {
   slices = part 0 31 ns;
-  charges = part 31 31 ns;
-  counts = part 62 13 ns;
-  maxima = part 75 13 ns;
-  attributes = part 88 9 ns;
-  bits = part 97 9 ns;
-  time = getD (part 106 1 ns) 0 0;
+  counts = part 31 13 ns;
+  maxima = part 44 13 ns;
+  attributes = part 57 9 ns;
+  bits = part 66 9 ns;
+  time = getD (part 75 1 ns) 0 0;
 }

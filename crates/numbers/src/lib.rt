@@ -5,26 +5,24 @@ ghost use Prim.Native.Nat.{_+_, _≤_};
 ghost use lib.ListN.{getD, set, length};
 ghost use lib.Seq.{sets};
 ghost use Rattle.numbers.specs.Numbers.{part, stored, heldIn};
-ghost use Rattle.model.specs.State.{noted, ofSlices, ofCharges, ofCounts, ofMaxima, ofAttributes, ofBits, ofTime};
+ghost use Rattle.model.specs.State.{noted, ofSlices, ofCounts, ofMaxima, ofAttributes, ofBits, ofTime};
 use model::Numbers;
 
 // The table: its parts lie one behind the other.
-pub type NumberTable = [u32; 107];
+pub type NumberTable = [u32; 76];
 
 // ---- where each part begins,
 const SLICES: u16 = 0;
 
-const CHARGES: u16 = 31;
+const COUNTS: u16 = 31;
 
-const COUNTS: u16 = 62;
+const MAXIMA: u16 = 44;
 
-const MAXIMA: u16 = 75;
+const ATTRIBUTES: u16 = 57;
 
-const ATTRIBUTES: u16 = 88;
+const BITS: u16 = 66;
 
-const BITS: u16 = 97;
-
-const TIME: u16 = 106;
+const TIME: u16 = 75;
 
 // and how many places it has
 const LEVELS: u16 = 31;
@@ -78,12 +76,6 @@ pub fn slice_at(ns: &NumberTable, l: usize) -> u32
     number_at(ns, SLICES, LEVELS, l)
 }
 
-pub fn charge_at(ns: &NumberTable, l: usize) -> u32
-    ensures { λ r. ⌜ r ≡ getD (heldIn (now (ns .entry)) .charges) l 0 ⌝ }
-{
-    number_at(ns, CHARGES, LEVELS, l)
-}
-
 pub fn count_at(ns: &NumberTable, m: usize) -> u32
     ensures { λ r. ⌜ r ≡ getD (heldIn (now (ns .entry)) .counts) m 0 ⌝ }
 {
@@ -119,12 +111,6 @@ pub fn put_slice(ns: &mut NumberTable, l: usize, v: u32)
     ensures { λ r. ⌜ heldIn (now (ns .exit)) ≡ noted ofSlices l v (heldIn (now (ns .entry))) ⌝ }
 {
     put_number(ns, SLICES, LEVELS, l, v);
-}
-
-pub fn put_charge(ns: &mut NumberTable, l: usize, v: u32)
-    ensures { λ r. ⌜ heldIn (now (ns .exit)) ≡ noted ofCharges l v (heldIn (now (ns .entry))) ⌝ }
-{
-    put_number(ns, CHARGES, LEVELS, l, v);
 }
 
 pub fn put_count(ns: &mut NumberTable, m: usize, v: u32)
@@ -210,13 +196,11 @@ pub fn spread(ns: &mut NumberTable, x: Numbers)
 {
     let n: &mut [u32] = ns;
     let slices = x.slices;
-    let charges = x.charges;
     let counts = x.counts;
     let maxima = x.maxima;
     let attributes = x.attributes;
     let bits = x.bits;
     put31(n, SLICES, slices);
-    put31(n, CHARGES, charges);
     put13(n, COUNTS, counts);
     put13(n, MAXIMA, maxima);
     put9(n, ATTRIBUTES, attributes);
@@ -256,7 +240,6 @@ pub fn gather(ns: &NumberTable) -> Numbers
 {
     let n: &[u32] = ns;
     let slices = part31(n, SLICES);
-    let charges = part31(n, CHARGES);
     let counts = part13(n, COUNTS);
     let maxima = part13(n, MAXIMA);
     let attributes = part9(n, ATTRIBUTES);
@@ -264,7 +247,6 @@ pub fn gather(ns: &NumberTable) -> Numbers
     let time = number_at(n, TIME, 1, 0);
     Numbers {
         slices,
-        charges,
         counts,
         maxima,
         attributes,

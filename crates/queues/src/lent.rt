@@ -16,6 +16,14 @@ pub fn best(levels: &Levels) -> u8
     rows::best(ls)
 }
 
+// The task that stands first in a level, or 0.
+pub fn first_of_level(levels: &Levels, l: usize) -> u8
+    ensures { λ r. ⌜ r ≡ firstOf (queuesOf 31 (now (levels .entry))) l ⌝ }
+{
+    let ls: &[u8] = levels;
+    rows::first_of(ls, l)
+}
+
 // A task leaves level f and goes last in level g.
 pub fn relist_levels(levels: &mut Levels, f: usize, g: usize, t: u8)
     ensures { λ r. ⌜ queuesOf 31 (now (levels .exit)) ≡ relisted (queuesOf 31 (now (levels .entry))) f g t ⌝ }

@@ -1,9 +1,11 @@
 // One task's record: which queues list it, the records that calls make of it, and how its last wait ended.
 // Each function is a definition of model/specs/Task, for every value; it rests on model and, for a sign, on a law of laws.
 ghost use mathlib.Core.Path.{_≡_};
+ghost use mathlib.Core.Bool.{cond};
+ghost use lib.Dec.{eqb};
 ghost use Rattle.model.specs.Code.{waitNumber};
 ghost use Rattle.model.specs.Flag.{isMet, flagRow};
-ghost use Rattle.model.specs.Task.{noWait, asleep, onSemaphore, onFlag, noTask, levelOf, rowOf, dormant, activated, created, withPriority, withSuspended, withWakeups, withActivations, waiting, ended, told};
+ghost use Rattle.model.specs.Task.{noWait, asleep, onSemaphore, onFlag, noTask, levelOf, rowOf, dormant, activated, created, withPriority, withSuspended, withWakeups, withActivations, withCharge, waiting, ended, told};
 use model::News;
 use model::Task;
 use model::Wait;
@@ -144,6 +146,7 @@ pub fn dormant(p: u8) -> Task
         spare: 0,
         wait: none,
         handed: 0,
+        charge: 0,
     }
 }
 
@@ -199,6 +202,19 @@ pub fn with_activations(x: Task, n: u8) -> Task
 {
     let mut r = x;
     r.activations = n;
+    r
+}
+
+// Record x in place of record k, where level `from` lists k and level `to` lists x: this is `settled k x`, for a caller that knows both levels.
+pub fn settled(k: Task, x: Task, from: u8, to: u8) -> Task
+    ensures { λ r. ⌜ r ≡ withCharge x (cond (eqb from to) (k .charge) 0) ⌝ }
+{
+    let mut r = x;
+    if from == to {
+        r.charge = k.charge;
+        return r;
+    }
+    r.charge = 0;
     r
 }
 

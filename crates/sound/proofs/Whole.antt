@@ -24,7 +24,7 @@ use Rattle.numbers.proofs.Laws.{part-long}
 use Rattle.tables.specs.Lent.{stateIn}
 use Rattle.crossing.specs.Crossing.{crossesAll}
 use Rattle.crossing.proofs.Tests.{both}
-use Rattle.sound.specs.Parts.{taskAt, unmetAt, rateAt, countAt, flagAt}
+use Rattle.sound.specs.Parts.{taskAt, chargeAt, unmetAt, sliceAt, countAt, flagAt}
 use Rattle.sound.proofs.Tables.{wanted-exactly}
 
 -- ---- a record of zeros is in no queue
@@ -65,17 +65,18 @@ queues-sized n ls h = rw (eq-eqb _ _ (length-queues n 0 ls), each-sized (queuesO
 abbrev pub others : State → Bool → Bool → Bool
 others s runnable waiting =
     below 25 (taskAt (s .tasks))
-    && (below 31 (rateAt (s .numbers))
+    && (below 31 (sliceAt (s .numbers))
+    && (below 25 (chargeAt (s .tasks) (s .levels) (s .numbers .slices))
     && (below 13 (countAt (s .numbers) (s .waits))
     && (below 9 (flagAt (s .numbers) (s .waits))
     && (below 25 (unmetAt (s .tasks) (s .numbers .bits))
-    && (runnable && waiting)))))
+    && (runnable && waiting))))))
 
 -- the queues crossed off
 abbrev pub tested : State → List ℕ → List ℕ → Bool
 tested s levels waits = others s (crossesAll 31 0 levels (map levelOf (s .tasks))) (crossesAll 21 0 waits (map rowOf (s .tasks)))
 
-module _ (b w l q n : List ℕ) (levels# : length l ≡ 744) (waits# : length q ≡ 504) (numbers# : length n ≡ 107) where
+module _ (b w l q n : List ℕ) (levels# : length l ≡ 744) (waits# : length q ≡ 504) (numbers# : length n ≡ 76) where
   abbrev s : State
   s = stateIn b w l q n
 
@@ -86,11 +87,10 @@ module _ (b w l q n : List ℕ) (levels# : length l ≡ 744) (waits# : length q 
         queues-sized 31 l levels#,
         queues-sized 21 q waits#,
         part-long 0 31 n (omega arith),
-        part-long 31 31 n (omega arith),
-        part-long 62 13 n (omega arith),
-        part-long 75 13 n (omega arith),
-        part-long 88 9 n (omega arith),
-        part-long 97 9 n (omega arith),
+        part-long 31 13 n (omega arith),
+        part-long 44 13 n (omega arith),
+        part-long 57 9 n (omega arith),
+        part-long 66 9 n (omega arith),
       )
 
   pub sound-tested : isSound s ≡ (isOrigin s && tested s l q)

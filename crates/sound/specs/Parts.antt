@@ -1,4 +1,4 @@
--- The test of soundness in parts, each over the tables that it looks at: of a record, a level's rate, a semaphore's count, a flag, and
+-- The test of soundness in parts, each over the tables that it looks at: of a record, a charge, a slice, a semaphore's count, a flag, and
 -- what one walk over the records sees. Each is a line of model/specs/Test.
 use mathlib.Core.Bool.{Bool}
 use mathlib.Core.List.{List, map}
@@ -10,18 +10,23 @@ use Rattle.model.specs.declared.Numbers.{Numbers}
 use Rattle.model.specs.Row.{firstOf, secondOf}
 use Rattle.model.specs.Flag.{flagRow}
 use Rattle.model.specs.Task.{noTask, levelOf, rowOf}
-use Rattle.model.specs.Test.{below, isTaskSound, isUnmet, isRateSound, isCountSound, isFlagSound}
+use Rattle.model.specs.Plan.{isSlice}
+use Rattle.model.specs.Test.{below, isTaskSound, isChargeOf, isUnmet, isCountSound, isFlagSound}
 use Rattle.sound.specs.declared.Seen.{Seen}
 
 abbrev pub taskAt : List Task → ℕ → Bool
 taskAt xs t = isTaskSound (getD xs t noTask)
 
+-- of the levels and their slices
+abbrev pub chargeAt : List Task → List Queue → List ℕ → ℕ → Bool
+chargeAt xs levels slices t = isChargeOf levels slices t (getD xs t noTask)
+
 -- of the flags' bits
 abbrev pub unmetAt : List Task → List ℕ → ℕ → Bool
 unmetAt xs bits t = isUnmet (getD xs t noTask .wait) (getD bits (getD xs t noTask .wait .object) 0)
 
-abbrev pub rateAt : Numbers → ℕ → Bool
-rateAt x l = isRateSound (getD (x .slices) l 0) (getD (x .charges) l 0)
+abbrev pub sliceAt : Numbers → ℕ → Bool
+sliceAt x l = isSlice (getD (x .slices) l 0)
 
 abbrev pub countAt : Numbers → List Queue → ℕ → Bool
 countAt x waits m = isCountSound (getD (x .counts) m 0) (getD (x .maxima) m 0) (firstOf waits m)
@@ -29,5 +34,11 @@ countAt x waits m = isCountSound (getD (x .counts) m 0) (getD (x .maxima) m 0) (
 abbrev pub flagAt : Numbers → List Queue → ℕ → Bool
 flagAt x waits f = isFlagSound (getD (x .attributes) f 0) (getD (x .bits) f 0) (firstOf waits (flagRow f)) (secondOf waits (flagRow f))
 
-abbrev pub seenIn : List Task → List ℕ → Seen
-seenIn xs bits = record { sound = below 25 (taskAt xs); unmet = below 25 (unmetAt xs bits); levels = map levelOf xs; rows = map rowOf xs }
+abbrev pub seenIn : List Task → List Queue → Numbers → Seen
+seenIn xs levels x = record {
+  sound = below 25 (taskAt xs);
+  charges = below 25 (chargeAt xs levels (x .slices));
+  unmet = below 25 (unmetAt xs (x .bits));
+  levels = map levelOf xs;
+  rows = map rowOf xs;
+}

@@ -1,5 +1,5 @@
-// The test that the public entries make of any state: whether it is sound. A task's record is read once, a place of a
-// queue three times at most; docs/ARCHITECTURE.md counts them.
+// The test that the public entries make of any state: whether it is sound. A task's record is read once, and with it the first place of
+// its level; docs/ARCHITECTURE.md counts how often each place is looked at.
 // Each function is a definition of model/specs/Test, for every value; it rests on sound_parts for single places, on crossing for
 // queues, and on the tables that it is lent.
 ghost use mathlib.Core.Path.{_≡_};
@@ -8,72 +8,78 @@ ghost use Rattle.stored.specs.Stored.{tasksOf};
 ghost use Rattle.queues.specs.Queues.{queuesOf};
 ghost use Rattle.numbers.specs.Numbers.{heldIn};
 ghost use Rattle.tables.specs.Lent.{before};
-ghost use Rattle.sound.specs.Parts.{rateAt, countAt, flagAt, seenIn};
+ghost use Rattle.sound.specs.Parts.{sliceAt, countAt, flagAt, seenIn};
 use crossing::cross_all;
 use model::State;
 use numbers::NumberTable;
 use numbers::attributes_at;
 use numbers::bits_at;
-use numbers::charge_at;
 use numbers::count_at;
 use numbers::maximum_at;
 use numbers::slice_at;
 use queues::Levels;
 use queues::Waits;
+use queues::lent::first_of_level;
 use queues::lent::first_waiter;
 use stored::Bytes;
 use stored::Words;
 
 // ---- records
-// What a walk over the records sees: whether each is sound, whether no wait on a flag is met already, and which level and which row list
-// each task.
+// What a walk over the records sees: whether each is sound, whether its charge is, whether no wait on a flag is met already, and which
+// level and which row list each task.
 struct Seen {
     sound: bool,
+    charges: bool,
     unmet: bool,
     levels: [u8; 25],
     rows: [u8; 25],
 }
 
-fn look(bytes: &Bytes, words: &Words, numbers: &NumberTable) -> Seen
-    ensures { λ r. ⌜ r ≡ seenIn (tasksOf (now (bytes .entry)) (now (words .entry))) (heldIn (now (numbers .entry)) .bits) ⌝ }
+fn look(bytes: &Bytes, words: &Words, levels: &Levels, numbers: &NumberTable) -> Seen
+    ensures { λ r. ⌜ r ≡ seenIn (tasksOf (now (bytes .entry)) (now (words .entry))) (queuesOf 31 (now (levels .entry))) (heldIn (now (numbers .entry))) ⌝ }
 {
     let mut sound = true;
+    let mut charges = true;
     let mut unmet = true;
-    let mut levels = [0u8; 25];
-    let mut rows = [0u8; 25];
+    let mut by_level = [0u8; 25];
+    let mut by_row = [0u8; 25];
     let mut t: usize = 0;
     while t < 25 {
         let x = stored::record_at(bytes, words, t);
         let wait = x.wait;
         let bits = bits_at(numbers, wait.object as usize);
-        let sound_here = sound_parts::record::task_sound(x);
-        let unmet_here = sound_parts::flag::is_unmet(wait, bits);
         let level = records::level_of(x);
         let row = records::row_of(x);
+        let first = first_of_level(levels, level as usize);
+        let slice = slice_at(numbers, level as usize);
+        let sound_here = sound_parts::record::task_sound(x);
+        let charge_here = sound_parts::record::charge_sound(x.charge, t as u8, first, slice);
+        let unmet_here = sound_parts::flag::is_unmet(wait, bits);
         sound = sound_here & sound;
+        charges = charge_here & charges;
         unmet = unmet_here & unmet;
-        levels[t] = level;
-        rows[t] = row;
+        by_level[t] = level;
+        by_row[t] = row;
         t += 1;
     }
     Seen {
         sound,
+        charges,
         unmet,
-        levels,
-        rows,
+        levels: by_level,
+        rows: by_row,
     }
 }
 
 // ---- slices, counts and flags
-fn rates_sound(numbers: &NumberTable) -> bool
-    ensures { λ r. ⌜ r ≡ below 31 (rateAt (heldIn (now (numbers .entry)))) ⌝ }
+fn slices_sound(numbers: &NumberTable) -> bool
+    ensures { λ r. ⌜ r ≡ below 31 (sliceAt (heldIn (now (numbers .entry)))) ⌝ }
 {
     let mut sound = true;
     let mut l: usize = 0;
     while l < 31 {
         let slice = slice_at(numbers, l);
-        let charge = charge_at(numbers, l);
-        let here = sound_parts::record::rate_sound(slice, charge);
+        let here = sound_parts::record::slice_sound(slice);
         sound = here & sound;
         l += 1;
     }
@@ -130,31 +136,32 @@ pub fn sound_in(
     let ns: &[u32] = numbers;
     let x = stored::record_at(bytes, words, 0);
     let slice = slice_at(numbers, 0);
-    let charge = charge_at(numbers, 0);
     let count = count_at(numbers, 0);
     let maximum = maximum_at(numbers, 0);
     let attributes = attributes_at(numbers, 0);
     let bits = bits_at(numbers, 0);
-    let origin = sound_parts::record::is_origin(x, slice, charge, count, maximum, attributes, bits);
-    let seen = look(bytes, words, numbers);
-    let rates = rates_sound(numbers);
+    let origin = sound_parts::record::is_origin(x, slice, count, maximum, attributes, bits);
+    let seen = look(bytes, words, levels, numbers);
+    let slices = slices_sound(numbers);
     let counts = counts_sound(numbers, waits);
     let flags = flags_sound(numbers, waits);
     let by_level = seen.levels;
     let runnable = cross_all(ls, 31, by_level);
     let by_row = seen.rows;
     let waiting = cross_all(ws, 21, by_row);
-    origin & (seen.sound & (rates & (counts & (flags & (seen.unmet & (runnable & waiting))))))
+    origin
+        & (seen.sound
+            & (slices & (seen.charges & (counts & (flags & (seen.unmet & (runnable & waiting)))))))
 }
 
 pub fn is_sound(s: State) -> bool
     ensures { λ r. ⌜ r ≡ isSound s ⌝ }
 {
     let mut bytes = [0u8; 300];
-    let mut words = [0u32; 75];
+    let mut words = [0u32; 100];
     let mut levels = [0u8; 744];
     let mut waits = [0u8; 504];
-    let mut numbers = [0u32; 107];
+    let mut numbers = [0u32; 76];
     tables::spread(
         &mut bytes,
         &mut words,

@@ -3,12 +3,12 @@
 use mathlib.Core.Path.{_≡_}
 use mathlib.Core.Bool.{Bool, _&&_, and-assoc}
 
-module _ (a b c d e f g : Bool) where
-  pub seven : ((((((a && b) && c) && d) && e) && f) && g) ≡ (a && (b && (c && (d && (e && (f && g))))))
-  seven = simp and-assoc
+module _ (a b c d e f : Bool) where
+  pub six : (((((a && b) && c) && d) && e) && f) ≡ (a && (b && (c && (d && (e && f)))))
+  six = simp and-assoc
 
-  pub ten : (h i j : Bool) → (((((((((a && b) && c) && d) && e) && f) && g) && h) && i) && j) ≡ (a && (b && (c && (d && (e && (f && (g && (h && (i && j)))))))))
-  ten h i j = simp and-assoc
+  pub seven : (g : Bool) → ((((((a && b) && c) && d) && e) && f) && g) ≡ (a && (b && (c && (d && (e && (f && g))))))
+  seven g = simp and-assoc
 
-  pub eleven : (h i j k : Bool) → ((((((((((a && b) && c) && d) && e) && f) && g) && h) && i) && j) && k) ≡ (a && (b && (c && (d && (e && (f && (g && (h && (i && (j && k))))))))))
-  eleven h i j k = simp and-assoc
+  pub eleven : (g h i j k : Bool) → ((((((((((a && b) && c) && d) && e) && f) && g) && h) && i) && j) && k) ≡ (a && (b && (c && (d && (e && (f && (g && (h && (i && (j && k))))))))))
+  eleven g h i j k = simp and-assoc

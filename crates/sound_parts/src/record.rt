@@ -1,10 +1,10 @@
-// The tests of one task's record, of a level's slice and charge, of a semaphore's count, and of what stands at place 0.
+// The tests of one task's record and its charge, of a level's slice, of a semaphore's count, and of what stands at place 0.
 // Each function is a definition of model/specs/Test, for every value; it rests on model, and on records for the numbers of waits and codes.
 ghost use mathlib.Core.Path.{_≡_};
 ghost use mathlib.Core.Bool.{_&&_};
 ghost use lib.Dec.{eqb};
-ghost use Rattle.model.specs.Plan.{within};
-ghost use Rattle.model.specs.Test.{isNoWait, isBlank, isWaitCode, isResting, isWaitSound, isAskSound, isSpareSound, isTaskSound, isRateSound, isCountSound};
+ghost use Rattle.model.specs.Plan.{within, isSlice};
+ghost use Rattle.model.specs.Test.{isNoWait, isBlank, isWaitCode, isResting, isWaitSound, isAskSound, isSpareSound, isTaskSound, isChargeSound, isCountSound};
 use model::Task;
 use model::Wait;
 use records::DLT;
@@ -45,6 +45,7 @@ fn is_blank(x: Task) -> bool
         & (x.spare == 0)
         & no_wait
         & (x.handed == 0)
+        & (x.charge == 0)
 }
 
 fn is_wait_code(v: u8) -> bool
@@ -141,10 +142,17 @@ pub fn task_sound(x: Task) -> bool
         & spare_sound
 }
 
-pub fn rate_sound(slice: u32, charge: u32) -> bool
-    ensures { λ r. ⌜ r ≡ isRateSound slice charge ⌝ }
+pub fn slice_sound(slice: u32) -> bool
+    ensures { λ r. ⌜ r ≡ isSlice slice ⌝ }
 {
-    (slice <= 1000) & ((charge < slice) | ((slice == 0) & (charge == 0)))
+    slice <= 1000
+}
+
+// The charge of task t, in whose level `first` stands first.
+pub fn charge_sound(charge: u32, t: u8, first: u8, slice: u32) -> bool
+    ensures { λ r. ⌜ r ≡ isChargeSound charge t first slice ⌝ }
+{
+    (charge == 0) | ((first == t) & (charge < slice))
 }
 
 pub fn count_sound(count: u32, maximum: u32, first: u8) -> bool
@@ -154,23 +162,9 @@ pub fn count_sound(count: u32, maximum: u32, first: u8) -> bool
 }
 
 // Place 0 of every table is unused.
-pub fn is_origin(
-    x: Task,
-    slice: u32,
-    charge: u32,
-    count: u32,
-    maximum: u32,
-    attributes: u32,
-    bits: u32,
-) -> bool
-    ensures { λ r. ⌜ r ≡ (isBlank x && (eqb slice 0 && (eqb charge 0 && (eqb count 0 && (eqb maximum 0 && (eqb attributes 0 && eqb bits 0)))))) ⌝ }
+pub fn is_origin(x: Task, slice: u32, count: u32, maximum: u32, attributes: u32, bits: u32) -> bool
+    ensures { λ r. ⌜ r ≡ (isBlank x && (eqb slice 0 && (eqb count 0 && (eqb maximum 0 && (eqb attributes 0 && eqb bits 0))))) ⌝ }
 {
     let blank = is_blank(x);
-    blank
-        & (slice == 0)
-        & (charge == 0)
-        & (count == 0)
-        & (maximum == 0)
-        & (attributes == 0)
-        & (bits == 0)
+    blank & (slice == 0) & (count == 0) & (maximum == 0) & (attributes == 0) & (bits == 0)
 }

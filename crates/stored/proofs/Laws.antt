@@ -11,7 +11,7 @@ use native.Mathlib.Decide.{ℕ-discrete}
 use lib.ListN.{getD, set, length, take, length-set, List·getD-eq-default}
 use lib.Seq.{getD-set-same, getD-set-other, ext-getD, take-suc, take-suc-set, take-all}
 use Rattle.model.specs.declared.Task.{Task}
-use Rattle.model.specs.Task.{noTask, withRemaining}
+use Rattle.model.specs.Task.{noTask, withRemaining, withCharge}
 use Rattle.stored.specs.Stored.{recordAt, recordsFrom, tasksOf, withOwn, withWaits, wordsWith}
 
 -- ---- a record is read
@@ -42,39 +42,52 @@ all-read : (b w : List ℕ) (l : List Task) → length l ≡ 25 → ((i : ℕ) �
 all-read b w l e h =
     ext-getD noTask (tasksOf b w) l (length-tasks b w ∙ sym e) (λ i g. let k : i < 25 = omega (arith, length-tasks b w) in read b w i k ∙ h i k)
 
--- ---- numbers are stored one behind another
--- the numbers from place i + c on
-stores : List ℕ → ℕ → ℕ → List ℕ → List ℕ
-stores l i c [] = l
-stores l i c (v ∷ vs) = stores (set l (i + c) v) i (suc c) vs
+-- ---- numbers are stored, each at its place
+-- the first of them at place p c, the next at place p (c + 1)
+stores : (ℕ → ℕ) → List ℕ → ℕ → List ℕ → List ℕ
+stores p l c [] = l
+stores p l c (v ∷ vs) = stores p (set l (p c) v) (suc c) vs
 
-stores-other : (vs l : List ℕ) (i c j : ℕ) → ((d : ℕ) → c ≤ d → d < c + length vs → j ≢ i + d) → getD (stores l i c vs) j 0 ≡ getD l j 0
+stores-other : (p : ℕ → ℕ) (vs l : List ℕ) (c j : ℕ) → ((d : ℕ) → c ≤ d → d < c + length vs → j ≢ p d) → getD (stores p l c vs) j 0 ≡ getD l j 0
 unfolding stores
-stores-other [] l i c j h = refl
-stores-other (v ∷ vs) l i c j h =
-    stores-other vs (set l (i + c) v) i (suc c) j (λ d p q. h d (omega arith) (omega arith)) ∙ getD-set-other l (i + c) j v 0 (h c (omega arith) (omega arith))
+stores-other p [] l c j h = refl
+stores-other p (v ∷ vs) l c j h =
+    stores-other p vs (set l (p c) v) (suc c) j (λ d f g. h d (omega arith) (omega arith)) ∙ getD-set-other l (p c) j v 0 (h c (omega arith) (omega arith))
 
-stores-same : (vs l : List ℕ) (i c k : ℕ) → i + c + length vs ≤ length l → k < length vs → getD (stores l i c vs) (i + (c + k)) 0 ≡ getD vs k 0
+-- where no two places are the same
+stores-same : (p : ℕ → ℕ) → ((m n : ℕ) → p m ≡ p n → m ≡ n) → (vs l : List ℕ) (c k : ℕ) → ((d : ℕ) → d < c + length vs → p d < length l) → k < length vs
+    → getD (stores p l c vs) (p (c + k)) 0 ≡ getD vs k 0
 unfolding stores
-stores-same [] l i c k h g = absurd (omega arith)
-stores-same (v ∷ vs) l i c zero h g =
-    stores-other vs (set l (i + c) v) i (suc c) (i + (c + 0)) (λ d p q e. omega arith) ∙ rw (add-zero c) (getD-set-same l (i + c) v 0 (omega arith))
-stores-same (v ∷ vs) l i c (suc k) h g =
-    ap (λ (n : ℕ). getD (stores (set l (i + c) v) i (suc c) vs) (i + n) 0) (omega arith) ∙ stores-same vs (set l (i + c) v) i (suc c) k (rw length-set (omega arith)) (omega arith)
+stores-same p i [] l c k h g = absurd (omega arith)
+stores-same p i (v ∷ vs) l c zero h g =
+    stores-other p vs (set l (p c) v) (suc c) (p (c + 0)) (λ d f q e. omega (arith, i (c + 0) d e)) ∙ rw (add-zero c) (getD-set-same l (p c) v 0 (h c (omega arith)))
+stores-same p i (v ∷ vs) l c (suc k) h g =
+    ap (λ (n : ℕ). getD (stores p (set l (p c) v) (suc c) vs) (p n) 0) (omega arith)
+    ∙ stores-same p i vs (set l (p c) v) (suc c) k (λ d f. rw length-set (h d (omega arith))) (omega arith)
 
--- a record's twelve bytes and three words, as the tables hold them
+-- a record's twelve bytes and four words, as the tables hold them, and the places where they stand
 abbrev bytesOf : Task → List ℕ
 bytesOf x = x .base ∷ x .priority ∷ x .active ∷ x .suspended ∷ x .wakeups ∷ x .activations ∷ x .code ∷ x .spare ∷ x .wait .kind ∷ x .wait .object ∷ x .wait .mode ∷ x .wait .spare ∷ []
 
 abbrev wordsOf : Task → List ℕ
-wordsOf x = x .wait .remaining ∷ x .wait .pattern ∷ x .handed ∷ []
+wordsOf x = x .wait .remaining ∷ x .wait .pattern ∷ x .handed ∷ x .charge ∷ []
 
-bytes-stores : (b : List ℕ) (i : ℕ) (x : Task) → withWaits (withOwn b i x) i x ≡ stores b i 0 (bytesOf x)
+abbrev byteOf : ℕ → ℕ → ℕ
+byteOf t c = t * 12 + c
+
+abbrev wordOf : ℕ → ℕ → ℕ
+wordOf t c = t + c * 25
+
+bytes-stores : (b : List ℕ) (t : ℕ) (x : Task) → withWaits (withOwn b (t * 12) x) (t * 12) x ≡ stores (byteOf t) b 0 (bytesOf x)
 unfolding stores
-bytes-stores b i x = ap (λ (k : ℕ). stores (set b k (x .base)) i 1 (x .priority ∷ x .active ∷ x .suspended ∷ x .wakeups ∷ x .activations ∷ x .code ∷ x .spare ∷ x .wait .kind ∷ x .wait .object ∷ x .wait .mode ∷ x .wait .spare ∷ [])) (sym (add-zero i))
+bytes-stores b t x = ap (λ (k : ℕ). stores (byteOf t) (set b k (x .base)) 1 (x .priority ∷ x .active ∷ x .suspended ∷ x .wakeups ∷ x .activations ∷ x .code ∷ x .spare ∷ x .wait .kind ∷ x .wait .object ∷ x .wait .mode ∷ x .wait .spare ∷ [])) (sym (add-zero (t * 12)))
+
+words-stores : (w : List ℕ) (t : ℕ) (x : Task) → wordsWith w t x ≡ stores (wordOf t) w 0 (wordsOf x)
+unfolding stores
+words-stores w t x = ap (λ (k : ℕ). stores (wordOf t) (set w k (x .wait .remaining)) 1 (x .wait .pattern ∷ x .handed ∷ x .charge ∷ [])) (sym (add-zero t))
 
 -- ---- a record by its places
-byte-at : (b w : List ℕ) (t c : ℕ) → c < 12 → getD b (t * 12 + c) 0 ≡ getD (bytesOf (recordAt b w t)) c 0
+byte-at : (b w : List ℕ) (t c : ℕ) → c < 12 → getD b (byteOf t c) 0 ≡ getD (bytesOf (recordAt b w t)) c 0
 byte-at b w t zero h = rw add-zero
 byte-at b w t (suc zero) h = refl
 byte-at b w t (suc (suc zero)) h = refl
@@ -89,13 +102,14 @@ byte-at b w t (suc (suc (suc (suc (suc (suc (suc (suc (suc (suc zero)))))))))) h
 byte-at b w t (suc (suc (suc (suc (suc (suc (suc (suc (suc (suc (suc zero))))))))))) h = refl
 byte-at b w t (suc (suc (suc (suc (suc (suc (suc (suc (suc (suc (suc (suc c)))))))))))) h = absurd (omega arith)
 
-word-at : (b w : List ℕ) (t c : ℕ) → c < 3 → getD w (t + c * 25) 0 ≡ getD (wordsOf (recordAt b w t)) c 0
+word-at : (b w : List ℕ) (t c : ℕ) → c < 4 → getD w (wordOf t c) 0 ≡ getD (wordsOf (recordAt b w t)) c 0
 word-at b w t zero h = rw add-zero
 word-at b w t (suc zero) h = refl
 word-at b w t (suc (suc zero)) h = refl
-word-at b w t (suc (suc (suc c))) h = absurd (omega arith)
+word-at b w t (suc (suc (suc zero))) h = refl
+word-at b w t (suc (suc (suc (suc c)))) h = absurd (omega arith)
 
-by-places : (b w : List ℕ) (t : ℕ) (x : Task) → ((c : ℕ) → c < 12 → getD b (t * 12 + c) 0 ≡ getD (bytesOf x) c 0) → ((c : ℕ) → c < 3 → getD w (t + c * 25) 0 ≡ getD (wordsOf x) c 0)
+by-places : (b w : List ℕ) (t : ℕ) (x : Task) → ((c : ℕ) → c < 12 → getD b (byteOf t c) 0 ≡ getD (bytesOf x) c 0) → ((c : ℕ) → c < 4 → getD w (wordOf t c) 0 ≡ getD (wordsOf x) c 0)
     → recordAt b w t ≡ x
 by-places b w t x p q =
     let p₀ : getD b (t * 12) 0 ≡ x .base = rw add-zero at (p 0 (omega arith)) in
@@ -118,6 +132,7 @@ by-places b w t x p q =
         pattern = q 1 (omega arith) k;
       };
       handed = q 2 (omega arith) k;
+      charge = q 3 (omega arith) k;
     }
 
 -- tables in which task t has record x and each other task the one that it had
@@ -129,63 +144,70 @@ replaced b w b′ w′ t x h e f = all-read b′ w′ (set (tasksOf b w) t x) (l
     go i g (no a) = f i g a ∙ sym (getD-set-other (tasksOf b w) t i x noTask a ∙ read b w i g)
 
 -- ---- a record is stored
-word-here : (w : List ℕ) (t : ℕ) (x : Task) → length w ≡ 75 → t < 25 → (c : ℕ) → c < 3 → getD (wordsWith w t x) (t + c * 25) 0 ≡ getD (wordsOf x) c 0
-word-here w t x n h zero g =
-    rw add-zero
-    (getD-set-other (set (set w t (x .wait .remaining)) (t + 25) (x .wait .pattern)) (t + 50) t (x .handed) 0 (λ e. omega arith)
-    ∙ getD-set-other (set w t (x .wait .remaining)) (t + 25) t (x .wait .pattern) 0 (λ e. omega arith)
-    ∙ getD-set-same w t (x .wait .remaining) 0 (omega arith))
-word-here w t x n h (suc zero) g =
-    getD-set-other (set (set w t (x .wait .remaining)) (t + 25) (x .wait .pattern)) (t + 50) (t + 25) (x .handed) 0 (λ e. omega arith)
-    ∙ getD-set-same (set w t (x .wait .remaining)) (t + 25) (x .wait .pattern) 0 (rw length-set (omega arith))
-word-here w t x n h (suc (suc zero)) g = getD-set-same (set (set w t (x .wait .remaining)) (t + 25) (x .wait .pattern)) (t + 50) (x .handed) 0 (simp length-set (omega arith))
-word-here w t x n h (suc (suc (suc c))) g = absurd (omega arith)
-
-word-there : (w : List ℕ) (t : ℕ) (x : Task) → t < 25 → (i : ℕ) → i < 25 → i ≢ t → (c : ℕ) → getD (wordsWith w t x) (i + c * 25) 0 ≡ getD w (i + c * 25) 0
-word-there w t x h i k a c =
-    getD-set-other (set (set w t (x .wait .remaining)) (t + 25) (x .wait .pattern)) (t + 50) (i + c * 25) (x .handed) 0 (λ e. a (omega arith))
-    ∙ getD-set-other (set w t (x .wait .remaining)) (t + 25) (i + c * 25) (x .wait .pattern) 0 (λ e. a (omega arith))
-    ∙ getD-set-other w t (i + c * 25) (x .wait .remaining) 0 (λ e. a (omega arith))
-
-pub wrote : (b w : List ℕ) (t : ℕ) (x : Task) → length b ≡ 300 → length w ≡ 75 → t < 25 → tasksOf (withWaits (withOwn b (t * 12) x) (t * 12) x) (wordsWith w t x) ≡ set (tasksOf b w) t x
-wrote b w t x m n h = rw (bytes-stores b (t * 12) x) (replaced b w b′ w′ t x h here there)
+pub wrote : (b w : List ℕ) (t : ℕ) (x : Task) → length b ≡ 300 → length w ≡ 100 → t < 25 → tasksOf (withWaits (withOwn b (t * 12) x) (t * 12) x) (wordsWith w t x) ≡ set (tasksOf b w) t x
+wrote b w t x m n h = rw (bytes-stores b t x, words-stores w t x) (replaced b w b′ w′ t x h here there)
   where
     b′ : List ℕ
-    b′ = stores b (t * 12) 0 (bytesOf x)
+    b′ = stores (byteOf t) b 0 (bytesOf x)
 
     w′ : List ℕ
-    w′ = wordsWith w t x
+    w′ = stores (wordOf t) w 0 (wordsOf x)
 
     here : recordAt b′ w′ t ≡ x
-    here = by-places b′ w′ t x (λ c g. rw zero-add at (stores-same (bytesOf x) b (t * 12) 0 c (omega arith) g)) (word-here w t x n h)
+    here =
+        by-places b′ w′ t x
+        (λ c g. rw zero-add at (stores-same (byteOf t) (λ i j e. omega arith) (bytesOf x) b 0 c (λ d f. omega arith) g))
+        (λ c g. rw zero-add at (stores-same (wordOf t) (λ i j e. omega arith) (wordsOf x) w 0 c (λ d f. omega arith) g))
 
     there : (i : ℕ) → i < 25 → i ≢ t → recordAt b′ w′ i ≡ recordAt b w i
     there i k a =
         by-places b′ w′ i (recordAt b w i)
-        (λ c g. stores-other (bytesOf x) b (t * 12) 0 (i * 12 + c) (λ d p q e. a (omega arith)) ∙ byte-at b w i c g)
-        (λ c g. word-there w t x h i k a c ∙ word-at b w i c g)
+        (λ c g. stores-other (byteOf t) (bytesOf x) b 0 (byteOf i c) (λ d p q e. a (omega arith)) ∙ byte-at b w i c g)
+        (λ c g. stores-other (wordOf t) (wordsOf x) w 0 (wordOf i c) (λ d p q e. a (omega arith)) ∙ word-at b w i c g)
 
--- ---- one word is stored: a timeout falls
-pub left-at : (b w : List ℕ) (t : ℕ) → t < 25 → getD w t 0 ≡ getD (tasksOf b w) t noTask .wait .remaining
-left-at b w t h = ap (λ (x : Task). x .wait .remaining) (sym (read b w t h))
-
-pub fell : (b w : List ℕ) (t v : ℕ) → t < 25 → length w ≡ 75 → tasksOf b (set w t v) ≡ set (tasksOf b w) t (withRemaining (getD (tasksOf b w) t noTask) v)
-fell b w t v h n = rw (read b w t h) (replaced b w b w′ t (withRemaining (recordAt b w t) v) h here there)
+-- ---- one word is stored
+-- word c of task t becomes v, and x is the record that says so
+changed : (b w : List ℕ) (t c v : ℕ) (x : Task) → t < 25 → c < 4 → length w ≡ 100 → bytesOf x ≡ bytesOf (recordAt b w t) → wordsOf x ≡ set (wordsOf (recordAt b w t)) c v
+    → tasksOf b (set w (wordOf t c) v) ≡ set (tasksOf b w) t x
+changed b w t c v x h r n p q = replaced b w b w′ t x h here there
   where
     w′ : List ℕ
-    w′ = set w t v
+    w′ = set w (wordOf t c) v
 
-    left-here : (c : ℕ) → c < 3 → getD w′ (t + c * 25) 0 ≡ getD (wordsOf (withRemaining (recordAt b w t) v)) c 0
-    left-here zero g = rw add-zero (getD-set-same w t v 0 (omega arith))
-    left-here (suc c) g = getD-set-other w t (t + suc c * 25) v 0 (λ e. omega arith) ∙ word-at b w t (suc c) g
+    words : List ℕ
+    words = wordsOf (recordAt b w t)
 
-    here : recordAt b w′ t ≡ withRemaining (recordAt b w t) v
-    here = by-places b w′ t (withRemaining (recordAt b w t) v) (byte-at b w t) left-here
+    word-here : (d : ℕ) → d < 4 → Dec (d ≡ c) → getD w′ (wordOf t d) 0 ≡ getD (set words c v) d 0
+    word-here d g (yes a) = rw a (getD-set-same w (wordOf t c) v 0 (omega arith) ∙ sym (getD-set-same words c v 0 r))
+    word-here d g (no a) = getD-set-other w (wordOf t c) (wordOf t d) v 0 (λ e. a (omega arith)) ∙ word-at b w t d g ∙ sym (getD-set-other words c d v 0 a)
+
+    here : recordAt b w′ t ≡ x
+    here =
+        by-places b w′ t x
+        (λ d g. byte-at b w t d g ∙ ap (λ (l : List ℕ). getD l d 0) (sym p))
+        (λ d g. word-here d g (ℕ-discrete d c) ∙ ap (λ (l : List ℕ). getD l d 0) (sym q))
 
     there : (i : ℕ) → i < 25 → i ≢ t → recordAt b w′ i ≡ recordAt b w i
     there i k a =
         by-places b w′ i (recordAt b w i) (byte-at b w i)
-        (λ c g. getD-set-other w t (i + c * 25) v 0 (λ e. a (omega arith)) ∙ word-at b w i c g)
+        (λ d g. getD-set-other w (wordOf t c) (wordOf i d) v 0 (λ e. a (omega arith)) ∙ word-at b w i d g)
+
+-- a timeout
+pub left-at : (b w : List ℕ) (t : ℕ) → t < 25 → getD w t 0 ≡ getD (tasksOf b w) t noTask .wait .remaining
+left-at b w t h = ap (λ (x : Task). x .wait .remaining) (sym (read b w t h))
+
+pub fell : (b w : List ℕ) (t v : ℕ) → t < 25 → length w ≡ 100 → tasksOf b (set w t v) ≡ set (tasksOf b w) t (withRemaining (getD (tasksOf b w) t noTask) v)
+fell b w t v h n = rw (read b w t h) (rw add-zero at (changed b w t 0 v (withRemaining (recordAt b w t) v) h (omega arith) n refl refl))
+
+-- a charge
+pub charge-in : (b w : List ℕ) (t : ℕ) → t < 25 → getD w (t + 75) 0 ≡ getD (tasksOf b w) t noTask .charge
+charge-in b w t h = ap (λ (x : Task). x .charge) (sym (read b w t h))
+
+pub no-charge : (b w : List ℕ) (t : ℕ) → 25 ≤ t → 0 ≡ getD (tasksOf b w) t noTask .charge
+no-charge b w t h = ap (λ (x : Task). x .charge) (sym (read-past b w t h))
+
+pub recharges : (b w : List ℕ) (t v : ℕ) → t < 25 → length w ≡ 100 → tasksOf b (set w (t + 75) v) ≡ set (tasksOf b w) t (withCharge (getD (tasksOf b w) t noTask) v)
+recharges b w t v h n = rw (read b w t h) (changed b w t 3 v (withCharge (recordAt b w t) v) h (omega arith) n refl refl)
 
 -- ---- a table of records is filled from another, one record more, until it is the other
 pub fills : (r l : List Task) (t : ℕ) (x : Task) → length r ≡ 25 → length l ≡ 25 → t < 25 → x ≡ getD l t noTask → take t r ≡ take t l → take (t + 1) (set r t x) ≡ take (t + 1) l
@@ -209,14 +231,14 @@ same-bytes b w b′ w′ m n e = ext-getD 0 b b′ (m ∙ sym n) (λ j h. go j (
         let r : c < 12 = mod-lt j (omega arith) in
         rw q at (byte-at b w t c r ∙ ap (λ (x : Task). getD (bytesOf x) c 0) (same-record b w b′ w′ e t (omega arith)) ∙ sym (byte-at b′ w′ t c r))
 
-pub same-words : (b w b′ w′ : List ℕ) → length w ≡ 75 → length w′ ≡ 75 → tasksOf b w ≡ tasksOf b′ w′ → w ≡ w′
+pub same-words : (b w b′ w′ : List ℕ) → length w ≡ 100 → length w′ ≡ 100 → tasksOf b w ≡ tasksOf b′ w′ → w ≡ w′
 same-words b w b′ w′ m n e = ext-getD 0 w w′ (m ∙ sym n) (λ j h. go j (omega arith))
   where
-    go : (j : ℕ) → j < 75 → getD w j 0 ≡ getD w′ j 0
+    go : (j : ℕ) → j < 100 → getD w j 0 ≡ getD w′ j 0
     go j h =
         let t : ℕ = j % 25 in
         let c : ℕ = j / 25 in
         let q : t + c * 25 ≡ j = omega (arith, div-add-mod' j 25) in
         let r : t < 25 = mod-lt j (omega arith) in
-        let k : c < 3 = omega arith in
+        let k : c < 4 = omega arith in
         rw q at (word-at b w t c k ∙ ap (λ (x : Task). getD (wordsOf x) c 0) (same-record b w b′ w′ e t r) ∙ sym (word-at b′ w′ t c k))

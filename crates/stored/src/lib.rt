@@ -1,17 +1,17 @@
-// The records of all tasks in two tables of plain numbers, twelve bytes for each and three words, read and changed where they lie.
+// The records of all tasks in two tables of plain numbers, twelve bytes for each and four words, read and changed where they lie.
 // A table of records can't be lent, these can. Each function is a definition of specs/Stored; it rests on the records.
 ghost use mathlib.Core.Path.{_≡_};
 ghost use Prim.Native.Nat.{_<_};
 ghost use lib.ListN.{getD, set, length};
-ghost use Rattle.model.specs.Task.{noTask, withRemaining};
-ghost use Rattle.stored.specs.Stored.{recordAt, hasTwelve, hasThree, withOwn, withWaits, wordsWith, tasksOf};
+ghost use Rattle.model.specs.Task.{noTask, withRemaining, withCharge};
+ghost use Rattle.stored.specs.Stored.{recordAt, hasTwelve, hasFour, withOwn, withWaits, wordsWith, tasksOf};
 use model::Task;
 use model::Wait;
 
-// The two tables: twelve bytes for each task, task 0 first, and three words, all tasks' first words first.
+// The two tables: twelve bytes for each task, task 0 first, and four words, all tasks' first words first.
 pub type Bytes = [u8; 300];
 
-pub type Words = [u32; 75];
+pub type Words = [u32; 100];
 
 // The record of a task; a number that names none has zeros.
 pub fn record_at(bytes: &Bytes, words: &Words, t: usize) -> Task
@@ -48,6 +48,7 @@ fn record_in(bytes: &Bytes, words: &Words, t: usize) -> Task
         spare: bytes[i + 7],
         wait,
         handed: words[t + 50],
+        charge: words[t + 75],
     }
 }
 
@@ -94,15 +95,17 @@ fn put_wait(b: &mut [u8], i: usize, x: Task)
 
 // and the words.
 fn put_words(w: &mut [u32], t: usize, x: Task)
-    requires { ⌜ hasThree t (length (now w)) ⌝ }
+    requires { ⌜ hasFour t (length (now w)) ⌝ }
     ensures { λ r. ⌜ now (w .exit) ≡ wordsWith (now (w .entry)) t x ⌝ }
 {
     w[t] = x.wait.remaining;
     w[t + 25] = x.wait.pattern;
     w[t + 50] = x.handed;
+    w[t + 75] = x.charge;
 }
 
-// What is left of a task's timeout is replaced, and nothing else of its record. The bytes are there to say so: no byte is read.
+// ---- one word of a record is replaced, and nothing else of it. The bytes are there to say so: no byte is read.
+// What is left of a task's timeout,
 pub fn put_remaining(bytes: &Bytes, words: &mut Words, t: usize, left: u32)
     ensures { λ r. ⌜ tasksOf (now (bytes .entry)) (now (words .exit)) ≡ set (tasksOf (now (bytes .entry)) (now (words .entry))) t (withRemaining (getD (tasksOf (now (bytes .entry)) (now (words .entry))) t noTask) left) ⌝ }
 {
@@ -113,7 +116,28 @@ pub fn put_remaining(bytes: &Bytes, words: &mut Words, t: usize, left: u32)
     w[t] = left;
 }
 
-// A table of records goes into the two tables,
+// and its charge,
+pub fn put_charge(bytes: &Bytes, words: &mut Words, t: usize, n: u32)
+    ensures { λ r. ⌜ tasksOf (now (bytes .entry)) (now (words .exit)) ≡ set (tasksOf (now (bytes .entry)) (now (words .entry))) t (withCharge (getD (tasksOf (now (bytes .entry)) (now (words .entry))) t noTask) n) ⌝ }
+{
+    if 24 < t {
+        return;
+    }
+    let w: &mut [u32] = words;
+    w[t + 75] = n;
+}
+
+// which is also read alone.
+pub fn charge_at(bytes: &Bytes, words: &Words, t: usize) -> u32
+    ensures { λ r. ⌜ r ≡ getD (tasksOf (now (bytes .entry)) (now (words .entry))) t noTask .charge ⌝ }
+{
+    if 24 < t {
+        return 0;
+    }
+    words[t + 75]
+}
+
+// ---- a table of records goes into the two tables,
 pub fn spread(bytes: &mut Bytes, words: &mut Words, tasks: [Task; 25])
     ensures { λ r. ⌜ tasksOf (now (bytes .exit)) (now (words .exit)) ≡ tasks ⌝ }
 {

@@ -22,7 +22,7 @@ returns-5 : tie.Need-returns-5
 returns-5 c = law.deletes _ _ (stateIn _ _ _ _ _) _ _ (stateIn _ _ _ _ _) _ _ (c .before .before .before .before .tell-all .ensures) _ (c .before .before .before .before .before .before .before .before .before .before .before .before .before .e4 .given .1) refl (c .before .before .before .before .before .before .before .before .before .before .waiters .ensures) (c .before .before .put-count2 .ensures) (c .put-maximum2 .ensures)
 
 returns-6 : tie.Need-returns-6
-returns-6 c = law.slices _ _ (stateIn _ _ _ _ _) _ _ _ _ (c .before .before .before .before .before .e5 .given .1) (c .before .before .put-slice .ensures) (c .put-charge .ensures)
+returns-6 c = law.slices _ _ (stateIn _ _ _ _ _) _ _ _ _ _ (c .before .before .before .before .before .before .before .before .e5 .given .1) (c .before .before .before .before .before .first-of-level .ensures) (c .before .before .put-charge .ensures) (c .put-slice .ensures)
 
 returns-7 : tie.Need-returns-7
 returns-7 c = law.ticks _ _ _ _ (c .before .before .before .before .before .before .enum-told2 .given .1) (c .tick .ensures)
@@ -55,6 +55,8 @@ carry-spec =
     (λ c. search needs)
     (λ c κs. search needs)
     (λ c. search needs)
+    (λ c. search needs)
+    (λ c κs. search needs)
     (λ c. search needs)
     (λ c κs. search needs)
     (λ c. search needs)

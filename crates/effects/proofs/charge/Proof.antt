@@ -1,4 +1,4 @@
--- `effects::charge` meets its contract: one charged tick of a level, on each of its three ways.
+-- `effects::charge` meets its contract: one charged tick of a task in its level, on each of its three ways.
 use mathlib.Core.Path.{sym, _∙_}
 use Rattle.tables.specs.Lent.{stateIn}
 use Rattle.effects.proofs.Charging as law
@@ -19,7 +19,7 @@ add-next : tie.Need-add-next
 add-next c = search needs
 
 returns : tie.Need-returns
-returns c = law.none (stateIn _ _ _ _ _) _ (sym (c .before .before .before .before .slice-at .ensures) ∙ c .if1 .taken)
+returns c = law.none (stateIn _ _ _ _ _) _ _ (sym (c .before .before .before .before .slice-at .ensures) ∙ c .if1 .taken)
 
 wide-requires-2 : tie.Need-wide-requires-2
 wide-requires-2 c κs = search needs
@@ -31,7 +31,7 @@ put-charge-requires : tie.Need-put-charge-requires
 put-charge-requires c κs = search needs
 
 returns-2 : tie.Need-returns-2
-returns-2 c = law.more (stateIn _ _ _ _ _) _ _ _ (c .before .before .before .before .before .before .before .before .slice-at .ensures) (c .before .before .before .before .before .wide .ensures ∙ c .before .before .before .before .before .before .charge-at .ensures) (c .before .before .before .before .if1 .left) _ (rw (c .before .before .before .wide2 .ensures) at (c .before .before .if2 .taken)) (c .put-charge .ensures)
+returns-2 c = law.more (stateIn _ _ _ _ _) _ _ _ _ (c .before .before .before .before .before .before .before .before .slice-at .ensures) (c .before .before .before .before .before .wide .ensures ∙ c .before .before .before .before .before .before .charge-at .ensures) (c .before .before .before .before .if1 .left) _ (rw (c .before .before .before .wide2 .ensures) at (c .before .before .if2 .taken)) (c .put-charge .ensures)
 
 put-charge-requires-2 : tie.Need-put-charge-requires-2
 put-charge-requires-2 c κs = search needs
@@ -40,7 +40,7 @@ turn-level-requires : tie.Need-turn-level-requires
 turn-level-requires c κs = search needs
 
 returns-3 : tie.Need-returns-3
-returns-3 c = law.full (stateIn _ _ _ _ _) _ _ _ (c .before .before .before .before .before .before .before .before .before .before .slice-at .ensures) (c .before .before .before .before .before .before .before .wide .ensures ∙ c .before .before .before .before .before .before .before .before .charge-at .ensures) (c .before .before .before .before .before .before .if1 .left) _ _ (rw (c .before .before .before .before .before .wide2 .ensures) at (c .before .before .before .before .if2 .left)) (c .before .before .put-charge2 .ensures) (c .turn-level .ensures)
+returns-3 c = law.full (stateIn _ _ _ _ _) _ _ _ _ (c .before .before .before .before .before .before .before .before .before .before .slice-at .ensures) (c .before .before .before .before .before .before .before .wide .ensures ∙ c .before .before .before .before .before .before .before .before .charge-at .ensures) (c .before .before .before .before .before .before .if1 .left) _ _ (rw (c .before .before .before .before .before .wide2 .ensures) at (c .before .before .before .before .if2 .left)) (c .before .before .put-charge2 .ensures) (c .turn-level .ensures)
 
 pub charge-spec : {M : Type 1} → statement M
 charge-spec =

@@ -7,8 +7,7 @@ use Rattle.numbers.proofs.gather.Tie as tie
 returns : tie.Need-returns
 returns c =
     rw (
-      c .before .before .before .before .before .before .part31 .ensures,
-      c .before .before .before .before .before .part312 .ensures,
+      c .before .before .before .before .before .part31 .ensures,
       c .before .before .before .before .part13 .ensures,
       c .before .before .before .part132 .ensures,
       c .before .before .part9 .ensures,
@@ -20,7 +19,6 @@ pub gather-spec : {M : Type 1} → statement M
 gather-spec =
     tie.close
     (tie.spec
-    (λ c κs. search needs)
     (λ c κs. search needs)
     (λ c κs. search needs)
     (λ c κs. search needs)

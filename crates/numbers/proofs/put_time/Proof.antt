@@ -13,7 +13,7 @@ use Rattle.numbers.proofs.put_time.Tie as tie
 returns : tie.Need-returns
 returns c =
     let ns = c .before .before .args .ns .now in
-    let l : 0 < length (part 106 1 ns) = omega (arith, part-long 106 1 ns (omega arith)) in
+    let l : 0 < length (part 75 1 ns) = omega (arith, part-long 75 1 ns (omega arith)) in
     rw (c .put-number .ensures) (simp (part-same, part-other, getD-set-same))
 
 pub put-time-spec : {M : Type 1} → statement M

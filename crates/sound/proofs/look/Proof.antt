@@ -10,38 +10,47 @@ use Rattle.model.specs.Task.{levelOf, rowOf}
 use Rattle.model.specs.Test.{below}
 use Rattle.stored.specs.Stored.{tasksOf}
 use Rattle.stored.proofs.Laws.{length-tasks}
+use Rattle.queues.specs.Queues.{queuesOf}
 use Rattle.numbers.specs.Numbers.{heldIn}
-use Rattle.sound.specs.Parts.{taskAt, unmetAt}
+use Rattle.sound.specs.Parts.{taskAt, chargeAt, unmetAt}
 use Rattle.sound.proofs.Tables.{below-on, below-none, fill-on, fill-end}
 use Rattle.sound.proofs.look.Statement.{statement}
 use Rattle.sound.proofs.look.Tie as tie
 
 abbrev Inv-loop : tie.InvT-loop
-Inv-loop bytes words numbers sound₀ unmet₀ levels₀ rows₀ t₀ sound unmet levels rows t =
+Inv-loop bytes words levels numbers sound₀ charges₀ unmet₀ by-level₀ by-row₀ t₀ sound charges unmet by-level by-row t =
     let xs = tasksOf bytes words in
-    (t ≤ 25) × (length levels ≡ 25) × (length rows ≡ 25) × (sound ≡ below t (taskAt xs)) × (unmet ≡ below t (unmetAt xs (heldIn numbers .bits)))
-    × (take t levels ≡ take t (map levelOf xs)) × (take t rows ≡ take t (map rowOf xs))
+    (t ≤ 25) × (length by-level ≡ 25) × (length by-row ≡ 25) × (sound ≡ below t (taskAt xs)) × (charges ≡ below t (chargeAt xs (queuesOf 31 levels) (heldIn numbers .slices)))
+    × (unmet ≡ below t (unmetAt xs (heldIn numbers .bits))) × (take t by-level ≡ take t (map levelOf xs)) × (take t by-row ≡ take t (map rowOf xs))
 
 abbrev μ-loop : tie.MeasureT-loop
-μ-loop bytes words numbers sound₀ unmet₀ levels₀ rows₀ t₀ sound unmet levels rows t = 25 - t
+μ-loop bytes words levels numbers sound₀ charges₀ unmet₀ by-level₀ by-row₀ t₀ sound charges unmet by-level by-row t = 25 - t
 
 loop-holds : tie.Need-loop-holds Inv-loop μ-loop
-loop-holds c = (omega arith, refl, refl, below-none _, below-none _, refl, refl)
+loop-holds c = (omega arith, refl, refl, below-none _, below-none _, below-none _, refl, refl)
 
+-- the steps have names, from the last one back
 loop-again : tie.Need-loop-again Inv-loop μ-loop
 loop-again c =
-    let l = c .before .before .before .before .before .before .before .before .before .loop in
-    let a = c .before .before .before .before .before .before .before .before .before .before .args in
+    let charge = c .before in
+    let slice = charge .before .before in
+    let level = slice .before .before .before in
+    let bits = level .before in
+    let x = bits .before .before .before in
+    let l = x .before .before .loop in
+    let a = x .before .before .before .args in
     let xs = tasksOf (a .bytes .now) (a .words .now) in
-    let r = c .before .before .before .before .before .before .before .record-at .ensures in
+    let r = x .record-at .ensures in
+    let f = level .level-of .ensures in
     let n = length-tasks (a .bytes .now) (a .words .now) in (
       omega arith,
       simp length-set (l .inv .1),
       simp length-set (l .inv .2),
-      below-on _ (l .t) (c .before .before .before .task-sound .ensures ∙ rw r) (l .inv .3),
-      below-on _ (l .t) (c .before .before .is-unmet .ensures ∙ rw (c .before .before .before .before .bits-at .ensures, r)) (l .inv .4),
-      rw (c .before .level-of .ensures, r) (fill-on levelOf xs (l .levels) (l .t) _ (omega arith) (omega arith) (l .inv .5)),
-      rw (c .row-of .ensures, r) (fill-on rowOf xs (l .rows) (l .t) _ (omega arith) (omega arith) (l .inv .6)),
+      below-on _ (l .t) (charge .before .task-sound .ensures ∙ rw r) (l .inv .3),
+      below-on _ (l .t) (charge .charge-sound .ensures ∙ rw (slice .before .first-of-level .ensures, slice .slice-at .ensures, f, r)) (l .inv .4),
+      below-on _ (l .t) (c .is-unmet .ensures ∙ rw (bits .bits-at .ensures, r)) (l .inv .5),
+      rw (f, r) (fill-on levelOf xs (l .by-level) (l .t) _ (omega arith) (omega arith) (l .inv .6)),
+      rw (slice .before .before .row-of .ensures, r) (fill-on rowOf xs (l .by-row) (l .t) _ (omega arith) (omega arith) (l .inv .7)),
     )
 
 returns : tie.Need-returns Inv-loop μ-loop
@@ -54,8 +63,9 @@ returns c =
     rw (
       rw e at (l .inv .3),
       rw e at (l .inv .4),
-      fill-end levelOf xs (l .levels) (l .t) (omega arith) (omega arith) (l .inv .5),
-      fill-end rowOf xs (l .rows) (l .t) (omega arith) (omega arith) (l .inv .6),
+      rw e at (l .inv .5),
+      fill-end levelOf xs (l .by-level) (l .t) (omega arith) (omega arith) (l .inv .6),
+      fill-end rowOf xs (l .by-row) (l .t) (omega arith) (omega arith) (l .inv .7),
     )
 
 pub look-spec : {M : Type 1} → statement M
@@ -70,6 +80,12 @@ look-spec =
     (λ c κs. search needs)
     (λ c κs. search needs)
     (λ c κs. search needs)
+    (λ c. search needs)
+    (λ c κs. search needs)
+    (λ c. search needs)
+    (λ c κs. search needs)
+    (λ c κs. search needs)
+    (λ c. search needs)
     (λ c κs. search needs)
     (λ c κs. search needs)
     (λ c. search needs)

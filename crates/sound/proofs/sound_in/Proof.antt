@@ -9,13 +9,13 @@ use Rattle.sound.proofs.sound_in.Tie as tie
 
 returns : tie.Need-returns
 returns c =
-    let waiting = c .before .before in
+    let waiting = c .before .before .before in
     let runnable = waiting .before .before in
     let flags = runnable .before .before in
     let seen = flags .before .before .before in
     let bits = seen .before .before in
     let count = bits .before .before .before in
-    let x = count .before .before .before in
+    let x = count .before .before in
     let ls = x .before .before .before in
     let a = ls .before .args in
     rw (
@@ -23,15 +23,14 @@ returns c =
       runnable .cross-all .ensures,
       flags .flags-sound .ensures,
       flags .before .counts-sound .ensures,
-      flags .before .before .rates-sound .ensures,
+      flags .before .before .slices-sound .ensures,
       seen .look .ensures,
       seen .before .is-origin .ensures,
       bits .bits-at .ensures,
       bits .before .attributes-at .ensures,
       bits .before .before .maximum-at .ensures,
       count .count-at .ensures,
-      count .before .charge-at .ensures,
-      count .before .before .slice-at .ensures,
+      count .before .slice-at .ensures,
       x .record-at .ensures,
     )
     (sym (
@@ -45,7 +44,6 @@ pub sound-in-spec : {M : Type 1} → statement M
 sound-in-spec =
     tie.close
     (tie.spec
-    (λ c κs. search needs)
     (λ c κs. search needs)
     (λ c κs. search needs)
     (λ c κs. search needs)
