@@ -35,8 +35,9 @@ impl Kernel {
         if level.slice == 0 {
             return;
         }
-        task.charge += 1;
-        if task.charge >= level.slice {
+        if task.charge + 1 < level.slice {
+            task.charge += 1;
+        } else {
             task.charge = 0;
             level.queue.turn();
         }
