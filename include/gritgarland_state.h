@@ -9,16 +9,20 @@
 
 #include <stdint.h>
 
-/* The layout changed before version 1.5.0, last as this table says; what was built against an earlier one must be built again.
+/* The layout changed with version 2.6.0, as the first table says; what was built against an earlier one must be built again.
+     was, in version 1.5.0                           is
+     numbers.charges[l], of a level                  tasks[t].charge, of a task: the last field of its record
+     a task 24 bytes, a state 2276, a reply 2288     28, 2252, 2264
+   Whoever has kept a state of before gives the charge of level l to the level's first task, levels[l].places[0]; without one it is gone.
+   The layout had changed before version 1.5.0 too:
      was                                             is
      tasks[t].wait                                   tasks[t].wait.kind
      tasks[t].object, .mode, .remaining, .pattern    the same in tasks[t].wait; the fields of a task stand in another order
      levels[l][i], waits[r][i]                       levels[l].places[i], waits[r].places[i]
-     slices, charges, counts, maxima, attributes,    the same in numbers, all of 32 bits
-       bits, time: 16, 16, 16, 16, 8, 32, 32 bits
-     a task 24 bytes, a state 2076, a reply 2088     24, 2276, 2288
-   Since version 1.5.0 two bytes of a task's record that were padding have a name, spare, and must be zero: build again what was built
-   before, so that it copies and clears them. */
+     slices, counts, maxima, attributes, bits, time: the same in numbers, all of 32 bits
+       16, 16, 16, 8, 32, 32 bits
+     a task 24 bytes, a state 2076, a reply 2088     24, 2276, 2288 in version 1.5.0
+   Since version 1.5.0 two bytes of a task's record that were padding have a name, spare, and must be zero. */
 
 enum {
     GRITGARLAND_TASKS = 24,
@@ -51,6 +55,7 @@ typedef struct gritgarland_task {
     uint8_t spare;       /* 0 */
     gritgarland_wait wait;
     uint32_t handed;     /* the bits that the last wait handed over; 0 during any wait */
+    uint32_t charge;     /* ticks of its slice that it has used: below the slice of its level; 0 unless it is the first of the level */
 } gritgarland_task;
 
 typedef struct gritgarland_queue {
@@ -59,8 +64,7 @@ typedef struct gritgarland_queue {
 
 /* all that is no record and no queue */
 typedef struct gritgarland_numbers {
-    uint32_t slices[31];
-    uint32_t charges[31];
+    uint32_t slices[31];    /* of each level, in ticks; 0: none */
     uint32_t counts[13];
     uint32_t maxima[13];    /* 0: the semaphore is not created */
     uint32_t attributes[9]; /* a GRITGARLAND_ATTR_ number plus 1; 0: the flag is not created */
@@ -76,7 +80,7 @@ typedef struct gritgarland_state {
 } gritgarland_state;
 
 /* A compiler that lays a state out otherwise than the library refuses this line. */
-typedef char gritgarland_layout_of_the_library[sizeof(gritgarland_task) == 24 && sizeof(gritgarland_state) == 2276 ? 1 : -1];
+typedef char gritgarland_layout_of_the_library[sizeof(gritgarland_task) == 28 && sizeof(gritgarland_state) == 2252 ? 1 : -1];
 
 /* The fresh state. A static state without an initializer is fresh too. */
 static inline gritgarland_state gritgarland_fresh(void)

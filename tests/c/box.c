@@ -90,7 +90,7 @@ static void keys_and_sensors(void)
     answers(waits_for(START_KEY), GRITGARLAND_NO_ERR, RELAY, "the relay has the second press at once");
     answers(waits_for(START_KEY), GRITGARLAND_PENDING, READING, "and waits for the next");
     answers(waits_for(SENSOR), GRITGARLAND_PENDING, SCREEN, "the screen is first of its level still");
-    expect(box.numbers.charges[SHARED_LEVEL] == 2, "and has its two ticks");
+    expect(box.tasks[SCREEN].charge == 2 && box.tasks[LIBRARY].charge == 0, "and has its two ticks");
     ticks(SLICE - 3, SCREEN, "the rest of the screen's slice");
     ticks(1, LIBRARY, "the library's turn");
 }
@@ -108,6 +108,21 @@ static void alone_and_nobody(void)
     ticks(1, SCREEN, "and the screen's turn");
 }
 
+/* Whoever waits in the middle of its slice takes nothing of the next one's. */
+static void a_whole_slice(void)
+{
+    ticks(2, SCREEN, "two ticks of the screen's slice");
+    answers(waits_for(PAGE_KEY), GRITGARLAND_PENDING, LIBRARY, "the screen waits in the middle of it");
+    expect(box.tasks[SCREEN].charge == 0 && box.tasks[LIBRARY].charge == 0, "and its two ticks are gone");
+    answers(comes(PAGE_KEY), GRITGARLAND_NO_ERR, LIBRARY, "the screen comes back, last");
+    ticks(SLICE - 1, LIBRARY, "the library has a whole slice");
+    ticks(1, SCREEN, "before the screen's turn");
+    ticks(SLICE - 1, SCREEN, "and so has the screen");
+    ticks(1, LIBRARY, "before the library's");
+    answers(waits_for(OPEN_KEY), GRITGARLAND_PENDING, SCREEN, "the library waits at once");
+    answers(comes(OPEN_KEY), GRITGARLAND_NO_ERR, SCREEN, "and comes back behind the screen");
+}
+
 static void refusals(void)
 {
     answers(comes(0), GRITGARLAND_WRONG_PARAM, SCREEN, "signal 0");
@@ -120,18 +135,31 @@ static void refusals(void)
     answers(gritgarland_call_in_place(&box, GRITGARLAND_I, 33, SENSOR, 0, 0, 0), GRITGARLAND_WRONG_PARAM, SCREEN, "a service that names nothing");
 }
 
-/* The charge never stands at the slice; a state in which it does is answered, but not altered. */
-static void unsound(void)
+/* A charge never stands at the slice, and nobody but the first of a level has one. A state in which it is otherwise is answered, but not
+   altered. */
+static void unsound_by(uint32_t task, uint32_t charge)
 {
-    uint32_t charge = box.numbers.charges[SHARED_LEVEL];
-    box.numbers.charges[SHARED_LEVEL] = SLICE;
+    uint32_t kept = box.tasks[task].charge;
+    box.tasks[task].charge = charge;
     before = box;
     answers(tick(), GRITGARLAND_UNSOUND, NOBODY, "a tick on an unsound state");
     answers(comes(SENSOR), GRITGARLAND_UNSOUND, NOBODY, "a sensor on an unsound state");
     answers(waits_for(PAGE_KEY), GRITGARLAND_UNSOUND, NOBODY, "a wait on an unsound state");
     answers(gritgarland_call_in_place(&box, 2, 33, 0, 0, 0, 0), GRITGARLAND_UNSOUND, NOBODY, "before unknown numbers");
-    box.numbers.charges[SHARED_LEVEL] = charge;
+    box.tasks[task].charge = kept;
+    before = box;
+}
+
+static void unsound(void)
+{
+    expect(box.levels[SHARED_LEVEL].places[0] == SCREEN && box.levels[SHARED_LEVEL].places[1] == LIBRARY, "screen before library");
+    unsound_by(SCREEN, SLICE);
+    unsound_by(LIBRARY, 1);
+    unsound_by(READING, 1);
+    box.tasks[SCREEN].charge = SLICE - 1;
     answers(comes(SENSOR), GRITGARLAND_NO_ERR, READING, "mended, the box goes on");
+    answers(waits_for(SENSOR), GRITGARLAND_PENDING, SCREEN, "and back to the screen");
+    ticks(1, LIBRARY, "whose slice ends with this tick");
 }
 
 int main(void)
@@ -140,6 +168,7 @@ int main(void)
     waits_and_turns();
     keys_and_sensors();
     alone_and_nobody();
+    a_whole_slice();
     refusals();
     unsound();
     if (failures == 0)

@@ -5,14 +5,15 @@
 #include "same.h"
 
 _Static_assert(sizeof(gritgarland_wait) == 12 && offsetof(gritgarland_wait, spare) == 3 && offsetof(gritgarland_wait, remaining) == 4, "a wait");
-_Static_assert(sizeof(gritgarland_task) == 24 && offsetof(gritgarland_task, spare) == 7 && offsetof(gritgarland_task, wait) == 8 && offsetof(gritgarland_task, handed) == 20, "a task's record");
-_Static_assert(sizeof(gritgarland_queue) == 24 && sizeof(gritgarland_numbers) == 428, "a queue, and the numbers");
-_Static_assert(sizeof(gritgarland_state) == 2276 && sizeof(gritgarland_reply) == 2288, "a state");
-_Static_assert(offsetof(gritgarland_state, levels) == 600 && offsetof(gritgarland_state, waits) == 1344, "the queues");
-_Static_assert(offsetof(gritgarland_state, numbers) == 1848 && offsetof(gritgarland_state, numbers.time) == 2272, "the numbers");
-_Static_assert(offsetof(gritgarland_numbers, charges) == 124 && offsetof(gritgarland_numbers, counts) == 248, "the levels' numbers");
-_Static_assert(offsetof(gritgarland_numbers, maxima) == 300 && offsetof(gritgarland_numbers, attributes) == 352, "the semaphores' numbers");
-_Static_assert(offsetof(gritgarland_numbers, bits) == 388 && offsetof(gritgarland_numbers, time) == 424, "the flags' numbers");
+_Static_assert(sizeof(gritgarland_task) == 28 && offsetof(gritgarland_task, spare) == 7 && offsetof(gritgarland_task, wait) == 8, "a task's record");
+_Static_assert(offsetof(gritgarland_task, handed) == 20 && offsetof(gritgarland_task, charge) == 24, "its last two numbers");
+_Static_assert(sizeof(gritgarland_queue) == 24 && sizeof(gritgarland_numbers) == 304, "a queue, and the numbers");
+_Static_assert(sizeof(gritgarland_state) == 2252 && sizeof(gritgarland_reply) == 2264, "a state");
+_Static_assert(offsetof(gritgarland_state, levels) == 700 && offsetof(gritgarland_state, waits) == 1444, "the queues");
+_Static_assert(offsetof(gritgarland_state, numbers) == 1948 && offsetof(gritgarland_state, numbers.time) == 2248, "the numbers");
+_Static_assert(offsetof(gritgarland_numbers, slices) == 0 && offsetof(gritgarland_numbers, counts) == 124, "the levels' numbers");
+_Static_assert(offsetof(gritgarland_numbers, maxima) == 176 && offsetof(gritgarland_numbers, attributes) == 228, "the semaphores' numbers");
+_Static_assert(offsetof(gritgarland_numbers, bits) == 264 && offsetof(gritgarland_numbers, time) == 300, "the flags' numbers");
 
 enum { SERVICES = 32 };
 
@@ -135,7 +136,8 @@ static void upper_bits(void)
     too_large(&now.numbers.counts[12], UINT32_MAX, "a count of 4,294,967,295");
     too_large(&now.numbers.slices[7], 65536 + 1000, "a slice that is 1,000 in 16 bits");
     too_large(&now.numbers.slices[6], 65536, "a slice that is 0 in 16 bits");
-    too_large(&now.numbers.charges[7], 65536, "a charge that is 0 in 16 bits");
+    too_large(&now.tasks[1].charge, 65536, "a charge that is 0 in 16 bits");
+    too_large(&now.tasks[1].charge, UINT32_MAX, "a charge of 4,294,967,295");
     too_large(&now.numbers.attributes[8], 256 + 1, "attributes that are 1 in 8 bits");
     too_large(&now.numbers.attributes[8], 65536 + 1, "attributes that are 1 in 16 bits");
     too_large(&now.numbers.attributes[1], 256, "attributes that are 0 in 8 bits");

@@ -182,10 +182,11 @@ static void every_service(void)
 /* place 0 of a table, or a spare byte: no sound state has another number there */
 static int must_be_zero(size_t at)
 {
-    static const size_t first[] = {offsetof(gritgarland_numbers, slices), offsetof(gritgarland_numbers, charges), offsetof(gritgarland_numbers, counts),
-        offsetof(gritgarland_numbers, maxima), offsetof(gritgarland_numbers, attributes), offsetof(gritgarland_numbers, bits)};
+    static const size_t first[] = {offsetof(gritgarland_numbers, slices), offsetof(gritgarland_numbers, counts), offsetof(gritgarland_numbers, maxima),
+        offsetof(gritgarland_numbers, attributes), offsetof(gritgarland_numbers, bits)};
+    size_t in_task = at % sizeof(gritgarland_task);
     if (at < offsetof(gritgarland_state, levels))
-        return at < sizeof(gritgarland_task) || at % 24 == 7 || at % 24 == 11;
+        return at < sizeof(gritgarland_task) || in_task == 7 || in_task == 11;
     if (at < offsetof(gritgarland_state, numbers))
         return at < offsetof(gritgarland_state, levels) + 24 || (at >= offsetof(gritgarland_state, waits) && at < offsetof(gritgarland_state, waits) + 24);
     for (size_t i = 0; i < sizeof first / sizeof first[0]; i++)

@@ -3,7 +3,7 @@
 
 use crate::gen::{Rng, World, LIMITS};
 use crate::kernel::Kernel;
-use crate::layout::{store, State};
+use crate::layout::{store, State, TASK_PLACES};
 use crate::services::Call;
 use crate::slots;
 
@@ -45,8 +45,26 @@ impl std::fmt::Display for Damage {
     }
 }
 
-/// A damage of any number, or of one that is in use, or of a neighbour of one in use.
+/// Each task with charges near the slice of its level: the first may have those below it, everyone else may have none.
+pub fn charges(state: &State) -> Vec<Damage> {
+    let mut damages = Vec::new();
+    for task in 1..TASK_PLACES {
+        let slot = slots::charge_of(task);
+        let slice = state.numbers.slices[usize::from(state.tasks[task].priority)];
+        for value in [0, 1, slice.wrapping_sub(1), slice, slice + 1, slice + 65_536] {
+            if value != state.tasks[task].charge {
+                damages.push(Damage { slot, value });
+            }
+        }
+    }
+    damages
+}
+
+/// A damage of a charge, of any number, of one that is in use, or of a neighbour of one in use; the state is sound before.
 pub fn damage(rng: &mut Rng, state: &State) -> Damage {
+    if rng.percent(10) {
+        return rng.pick(&charges(state));
+    }
     let any = rng.below(slots::SLOTS);
     let used = (0..slots::SLOTS).map(|step| (any + step) % slots::SLOTS).find(|&slot| slots::get(state, slot) != 0);
     let slot = match (used, rng.below(3)) {

@@ -55,7 +55,7 @@ impl Kernel {
     pub fn fresh() -> Kernel {
         Kernel {
             tasks: [Task::NONE; TASKS as usize + 1],
-            levels: [Level { queue: Queue::EMPTY, slice: 0, charge: 0 }; LEVELS as usize + 1],
+            levels: [Level { queue: Queue::EMPTY, slice: 0 }; LEVELS as usize + 1],
             semaphores: [Semaphore::NONE; SEMAPHORES as usize + 1],
             flags: [Flag::NONE; FLAGS as usize + 1],
             time: 0,
@@ -128,15 +128,18 @@ impl Kernel {
         }
     }
 
-    /// A task entering the runnable state goes last in its level.
+    /// A task entering the runnable state goes last in its level. It has no charge: `leave_level` took it.
     pub(crate) fn enter_level(&mut self, t: usize) {
         let level = self.tasks[t].priority;
         self.levels[level as usize].queue.join(t);
         self.filled |= 1 << level;
     }
 
+    /// A task that stops being runnable, or is to enter another level, loses its charge.
     pub(crate) fn leave_level(&mut self, t: usize) {
-        let level = self.tasks[t].priority;
+        let task = &mut self.tasks[t];
+        task.charge = 0;
+        let level = task.priority;
         let queue = &mut self.levels[level as usize].queue;
         queue.leave(t);
         if queue.is_empty() {

@@ -38,6 +38,7 @@ pub struct Task {
     pub spare: u8,
     pub wait: Wait,
     pub handed: u32,
+    pub charge: u32,
 }
 
 #[repr(C)]
@@ -50,7 +51,6 @@ pub struct Queue {
 #[derive(Clone, Copy, PartialEq, Eq, Debug)]
 pub struct Numbers {
     pub slices: [u32; LEVEL_PLACES],
-    pub charges: [u32; LEVEL_PLACES],
     pub counts: [u32; SEMAPHORE_PLACES],
     pub maxima: [u32; SEMAPHORE_PLACES],
     /// The attributes plus 1; 0: not created.
@@ -68,8 +68,10 @@ pub struct State {
     pub numbers: Numbers,
 }
 
-const _: () = assert!(size_of::<Task>() == 24 && offset_of!(Task, wait) == 8 && offset_of!(Task, handed) == 20);
-const _: () = assert!(size_of::<State>() == 2276 && offset_of!(State, numbers) == 1848);
+const _: () = assert!(size_of::<Task>() == 28 && offset_of!(Task, wait) == 8 && offset_of!(Task, handed) == 20);
+const _: () = assert!(offset_of!(Task, charge) == 24 && size_of::<Numbers>() == 304);
+const _: () = assert!(size_of::<State>() == 2252 && offset_of!(State, numbers) == 1948);
+const _: () = assert!(size_of::<Reply>() == 2264 && offset_of!(Reply, state) == 12);
 
 #[repr(C)]
 #[derive(Clone, Copy, PartialEq, Eq, Debug)]
@@ -96,6 +98,7 @@ impl Task {
         spare: 0,
         wait: Wait::NONE,
         handed: 0,
+        charge: 0,
     };
 }
 
@@ -110,7 +113,6 @@ impl State {
         waits: [Queue::EMPTY; WAIT_ROWS],
         numbers: Numbers {
             slices: [0; LEVEL_PLACES],
-            charges: [0; LEVEL_PLACES],
             counts: [0; SEMAPHORE_PLACES],
             maxima: [0; SEMAPHORE_PLACES],
             attributes: [0; FLAG_PLACES],
@@ -151,13 +153,13 @@ pub fn store(kernel: &Kernel) -> State {
             spare: 0,
             wait: stored_wait(from),
             handed: from.handed,
+            charge: from.charge.into(),
         };
     }
     let numbers = &mut state.numbers;
     for (p, level) in kernel.levels.iter().enumerate() {
         state.levels[p] = stored_queue(&level.queue);
         numbers.slices[p] = level.slice.into();
-        numbers.charges[p] = level.charge.into();
     }
     for (s, semaphore) in kernel.semaphores.iter().enumerate() {
         state.waits[s] = stored_queue(&semaphore.queue);
@@ -210,12 +212,12 @@ pub fn load(state: &State) -> Option<Kernel> {
             wait_code: -(from.code as i8),
             remaining: from.wait.remaining,
             handed: from.handed,
+            charge: short(from.charge),
         };
     }
     let numbers = &state.numbers;
     for (p, to) in kernel.levels.iter_mut().enumerate() {
-        let (slice, charge) = (short(numbers.slices[p]), short(numbers.charges[p]));
-        *to = kernel::Level { queue: loaded_queue(state.level(p)), slice, charge };
+        *to = kernel::Level { queue: loaded_queue(state.level(p)), slice: short(numbers.slices[p]) };
     }
     for (s, to) in kernel.semaphores.iter_mut().enumerate() {
         let (count, maximum) = (short(numbers.counts[s]), short(numbers.maxima[s]));
@@ -249,7 +251,7 @@ fn loaded_queue(row: &[u8]) -> queue::Queue {
     queue
 }
 
-/// A number of a level or a semaphore, which the peer keeps in 16 bits.
+/// A charge, or a number of a level or a semaphore, which the peer keeps in 16 bits.
 fn short(number: u32) -> u16 {
     u16::try_from(number).expect("a sound state has no larger one")
 }

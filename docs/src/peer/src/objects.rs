@@ -44,6 +44,8 @@ pub struct Task {
     pub remaining: u32,
     /// The bits that the last wait handed over.
     pub handed: u32,
+    /// The ticks of its slice that it has used; only the first of a level has any.
+    pub charge: u16,
 }
 
 impl Task {
@@ -61,6 +63,7 @@ impl Task {
             wait_code: 0,
             remaining: 0,
             handed: 0,
+            charge: 0,
         }
     }
 
@@ -77,7 +80,6 @@ impl Task {
 pub struct Level {
     pub queue: Queue,
     pub slice: u16,
-    pub charge: u16,
 }
 
 #[derive(Clone, Copy, PartialEq, Eq, Debug)]

@@ -47,7 +47,9 @@ impl Queue {
     pub fn turn(&mut self) {
         let len = self.len as usize;
         if len >= 2 {
-            self.items[..len].rotate_left(1);
+            let first = self.items[0];
+            self.items.copy_within(1..len, 0);
+            self.items[len - 1] = first;
         }
     }
 }

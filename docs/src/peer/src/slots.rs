@@ -5,29 +5,32 @@ use crate::layout::{Queue, State, FLAG_PLACES, LEVEL_PLACES, SEMAPHORE_PLACES, T
 use crate::queue::PLACES;
 
 #[rustfmt::skip]
-pub const TASK_FIELDS: [&str; 15] = [
+pub const TASK_FIELDS: [&str; 16] = [
     "base", "priority", "active", "suspended", "wakeups", "activations", "code", "spare",
-    "wait.kind", "wait.object", "wait.mode", "wait.spare", "wait.remaining", "wait.pattern", "handed",
+    "wait.kind", "wait.object", "wait.mode", "wait.spare", "wait.remaining", "wait.pattern", "handed", "charge",
 ];
 
 const LEVELS_AT: usize = TASK_PLACES * TASK_FIELDS.len();
 const WAITS_AT: usize = LEVELS_AT + LEVEL_PLACES * PLACES;
 const SLICES_AT: usize = WAITS_AT + WAIT_ROWS * PLACES;
-const CHARGES_AT: usize = SLICES_AT + LEVEL_PLACES;
-const COUNTS_AT: usize = CHARGES_AT + LEVEL_PLACES;
+const COUNTS_AT: usize = SLICES_AT + LEVEL_PLACES;
 const MAXIMA_AT: usize = COUNTS_AT + SEMAPHORE_PLACES;
 const ATTRIBUTES_AT: usize = MAXIMA_AT + SEMAPHORE_PLACES;
 const BITS_AT: usize = ATTRIBUTES_AT + FLAG_PLACES;
 const TIME_AT: usize = BITS_AT + FLAG_PLACES;
 
 /// Where the tables begin, which follow the tasks.
-pub const TABLES: [usize; 8] =
-    [LEVELS_AT, WAITS_AT, SLICES_AT, CHARGES_AT, COUNTS_AT, MAXIMA_AT, ATTRIBUTES_AT, BITS_AT];
+pub const TABLES: [usize; 7] = [LEVELS_AT, WAITS_AT, SLICES_AT, COUNTS_AT, MAXIMA_AT, ATTRIBUTES_AT, BITS_AT];
 
 /// How many numbers a State holds.
 pub const SLOTS: usize = TIME_AT + 1;
 /// Those that are places of queues.
 pub const ROWS: std::ops::Range<usize> = LEVELS_AT..SLICES_AT;
+
+/// The charge of a task.
+pub fn charge_of(task: usize) -> usize {
+    task * TASK_FIELDS.len() + TASK_FIELDS.len() - 1
+}
 
 /// One number of a State, at its own width.
 enum Place<'a> {
@@ -55,13 +58,13 @@ fn place(state: &mut State, slot: usize) -> Place<'_> {
                 11 => Place::Byte(&mut task.wait.spare),
                 12 => Place::Word(&mut task.wait.remaining),
                 13 => Place::Word(&mut task.wait.pattern),
-                _ => Place::Word(&mut task.handed),
+                14 => Place::Word(&mut task.handed),
+                _ => Place::Word(&mut task.charge),
             }
         }
         LEVELS_AT..WAITS_AT => queue_place(&mut state.levels, slot - LEVELS_AT),
         WAITS_AT..SLICES_AT => queue_place(&mut state.waits, slot - WAITS_AT),
-        SLICES_AT..CHARGES_AT => Place::Word(&mut numbers.slices[slot - SLICES_AT]),
-        CHARGES_AT..COUNTS_AT => Place::Word(&mut numbers.charges[slot - CHARGES_AT]),
+        SLICES_AT..COUNTS_AT => Place::Word(&mut numbers.slices[slot - SLICES_AT]),
         COUNTS_AT..MAXIMA_AT => Place::Word(&mut numbers.counts[slot - COUNTS_AT]),
         MAXIMA_AT..ATTRIBUTES_AT => Place::Word(&mut numbers.maxima[slot - MAXIMA_AT]),
         ATTRIBUTES_AT..BITS_AT => Place::Word(&mut numbers.attributes[slot - ATTRIBUTES_AT]),
@@ -103,8 +106,7 @@ pub fn name(slot: usize) -> String {
         0..LEVELS_AT => format!("tasks[{}].{}", slot / TASK_FIELDS.len(), TASK_FIELDS[slot % TASK_FIELDS.len()]),
         LEVELS_AT..WAITS_AT => row("level", slot - LEVELS_AT),
         WAITS_AT..SLICES_AT => row("row of waiters", slot - WAITS_AT),
-        SLICES_AT..CHARGES_AT => format!("slices[{}]", slot - SLICES_AT),
-        CHARGES_AT..COUNTS_AT => format!("charges[{}]", slot - CHARGES_AT),
+        SLICES_AT..COUNTS_AT => format!("slices[{}]", slot - SLICES_AT),
         COUNTS_AT..MAXIMA_AT => format!("counts[{}]", slot - COUNTS_AT),
         MAXIMA_AT..ATTRIBUTES_AT => format!("maxima[{}]", slot - MAXIMA_AT),
         ATTRIBUTES_AT..BITS_AT => format!("attributes[{}]", slot - ATTRIBUTES_AT),

@@ -1,4 +1,4 @@
-//! The test of 'A sound state' on the library's layout, sentence by sentence, with what request P1 adds to it.
+//! The test of 'A sound state' on the library's layout, sentence by sentence, with what requests P1 and P3 make of it.
 //! It holds on any bytes: nothing is indexed by a number that was not tested before.
 
 use crate::kernel::{Asked, FLAGS, LARGEST_MAXIMUM, LARGEST_SLICE, LEVELS, SEMAPHORES, TASKS};
@@ -6,7 +6,7 @@ use crate::layout::{State, Task, Wait};
 
 pub fn is_sound(s: &State) -> bool {
     nothing_at_place_zero(s)
-        && (1..=TASKS as usize).all(|t| task_is_sound(s, &s.tasks[t]))
+        && (1..=TASKS as usize).all(|t| task_is_sound(s, &s.tasks[t]) && charge_is_sound(s, t))
         && (1..=LEVELS as usize).all(|p| level_is_sound(s, p))
         && (1..=SEMAPHORES as usize).all(|k| semaphore_is_sound(s, k))
         && (1..=FLAGS as usize).all(|f| flag_is_sound(s, f))
@@ -18,7 +18,6 @@ fn nothing_at_place_zero(s: &State) -> bool {
         && s.level(0).iter().all(|&t| t == 0)
         && s.waiters(0).iter().all(|&t| t == 0)
         && s.numbers.slices[0] == 0
-        && s.numbers.charges[0] == 0
         && s.numbers.counts[0] == 0
         && s.numbers.maxima[0] == 0
         && s.numbers.attributes[0] == 0
@@ -81,11 +80,16 @@ fn is_at_rest(task: &Task) -> bool {
         && task.priority == task.base
 }
 
-/// Slices are in range; charge is below the slice, or both are 0; the runnable tasks of this priority are listed.
+/// Only the first of a level has a charge, and it is below that level's slice; a sound record names its level.
+fn charge_is_sound(s: &State, t: usize) -> bool {
+    let Task { charge, priority, .. } = s.tasks[t];
+    let level = usize::from(priority);
+    charge == 0 || (usize::from(s.level(level)[0]) == t && charge < s.numbers.slices[level])
+}
+
+/// Its slice is in range, and it lists the runnable tasks of its priority.
 fn level_is_sound(s: &State, p: usize) -> bool {
-    let (slice, charge) = (s.numbers.slices[p], s.numbers.charges[p]);
-    slice <= LARGEST_SLICE
-        && (charge < slice || (charge == 0 && slice == 0))
+    s.numbers.slices[p] <= LARGEST_SLICE
         && lists_exactly(s.level(p), s, |task| {
             task.active == 1 && task.suspended == 0 && task.wait.kind == 0 && usize::from(task.priority) == p
         })

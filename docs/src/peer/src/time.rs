@@ -1,5 +1,5 @@
 //! Time slices and the tick.
-//! A tick counts time, then charges the level that was running as it came, then lets the timeouts fall.
+//! A tick counts time, then charges the task that was running as it came, then lets the timeouts fall.
 
 use crate::kernel::*;
 
@@ -10,30 +10,35 @@ impl Kernel {
         allowed(here)?;
         let level = &mut self.levels[level as usize];
         level.slice = slice as u16;
-        level.charge = 0;
+        for &t in level.queue.as_slice() {
+            self.tasks[t as usize].charge = 0;
+        }
         Ok(NO_ERR)
     }
 
     pub(crate) fn tick(&mut self, here: bool) -> Outcome {
         allowed(here)?;
         self.time = self.time.wrapping_add(1);
-        self.charge_running_level();
+        self.charge_running_task();
         self.let_timeouts_fall();
         Ok(NO_ERR)
     }
 
-    fn charge_running_level(&mut self) {
+    /// At the slice of its level the charge goes back to 0, and the level's first, if not alone, becomes last.
+    fn charge_running_task(&mut self) {
         let running = self.running();
         if running == 0 {
             return;
         }
-        let level = &mut self.levels[self.tasks[running].priority as usize];
+        let task = &mut self.tasks[running];
+        let level = &mut self.levels[task.priority as usize];
         if level.slice == 0 {
             return;
         }
-        level.charge += 1;
-        if level.charge >= level.slice {
-            level.charge = 0;
+        if task.charge + 1 < level.slice {
+            task.charge += 1;
+        } else {
+            task.charge = 0;
             level.queue.turn();
         }
     }

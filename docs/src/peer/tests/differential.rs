@@ -4,7 +4,7 @@
 #![cfg(library)]
 
 use peer::gen::{Rng, World, LIMITS};
-use peer::gen_states::{after, damage, damage_at, reached, Damage};
+use peer::gen_states::{after, charges, damage, damage_at, reached, Damage};
 use peer::kernel::{Answer, Kernel, UNSOUND, WRONG_PARAM};
 use peer::layout::{self, store, Reply, State};
 use peer::services::*;
@@ -124,7 +124,7 @@ fn test_damaged(seed: u64, calls: &[Call], damages: &[Damage], last: &Call) {
     panic!("seed {seed}:\n{}then the damages\n{damaged}then {last}: {how}", text(&calls));
 }
 
-/// Every number of a state in turn: 69,200 states with one of them damaged.
+/// Every number of a state in turn: 68,960 states with one of them damaged.
 #[test]
 fn every_number_damaged() {
     let mut rng = Rng::new(11);
@@ -137,7 +137,7 @@ fn every_number_damaged() {
     }
 }
 
-/// Every bit of every number turned over, those above what its range needs too: 273,120 states.
+/// Every bit of every number turned over, those above what its range needs too: 270,240 states.
 #[test]
 fn every_bit_turned_over() {
     let mut world = World::new(16);
@@ -152,7 +152,7 @@ fn every_bit_turned_over() {
             }
         }
     }
-    assert_eq!(states, 273_120);
+    assert_eq!(states, 270_240);
 }
 
 /// What means something above the smallest numbers, or would in 8 or 16 bits: 256 to 260 are 0 to 4 in 8.
@@ -177,6 +177,22 @@ fn every_value_that_means_something() {
         }
     }
     assert!(states > 350_000, "{states}");
+}
+
+/// Every task in turn with charges near the slice of its level, then a call or a tick: above 45,000 states.
+#[test]
+fn every_charge_damaged() {
+    let mut world = World::new(18);
+    let mut states = 0;
+    for seed in 7_000..7_500 {
+        let (calls, state) = reached(seed);
+        for damage in charges(&state) {
+            let last = if states % 2 == 0 { world.call() } else { Call::of(TICK, 0, 0, 0) };
+            test_damaged(seed, &calls, &[damage], &last);
+            states += 1;
+        }
+    }
+    assert!(states > 45_000, "{states}");
 }
 
 /// 30,000 states with one number damaged where it matters most, and 10,000 with two or three.

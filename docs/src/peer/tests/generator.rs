@@ -3,11 +3,15 @@
 
 mod common;
 use common::Bench;
-use peer::gen::World;
+use peer::gen::{Rng, World};
 use peer::gen_lists::{lines, readable};
-use peer::kernel::{Kernel, Wait};
+use peer::gen_states::{charges, damage, reached};
+use peer::kernel::{Kernel, Level, Wait};
+use peer::layout::{load, State};
 use peer::lists::{read_list, run_calls};
 use peer::services::*;
+use peer::slots::charge_of;
+use peer::sound::is_sound;
 use std::collections::BTreeMap;
 
 const RUNS: u64 = 2_000;
@@ -111,18 +115,50 @@ fn meetings(before: &Kernel, call: &Call, after: &Kernel) -> Vec<&'static str> {
         SUSPEND if call.a as usize == before.running() => seen.push("a task suspends itself"),
         SLEEP | ACQUIRE if caller.handed != 0 => seen.push("another wait after bits handed over"),
         SLEEP | ACQUIRE if caller.wait_code != 0 => seen.push("a wait after a wait code"),
-        TICK => {
-            let level = before.levels.iter().zip(&after.levels).find(|(old, _)| !old.queue.is_empty());
-            if let Some((old, new)) = level {
-                if old.charge + 1 == old.slice && old.queue.as_slice().len() >= 2 {
-                    seen.push(if expired > 0 { "a level turns as a wait runs out" } else { "a level turns" });
-                }
-                if old.charge > 0 && new.charge > old.charge {
-                    seen.push("a charge rises above 1");
-                }
-            }
+        TICK if is_at_the_end_of_its_slice(before) && !is_alone(before) => {
+            seen.push(if expired > 0 { "a level turns as a wait runs out" } else { "a level turns" })
         }
         _ => {}
+    }
+    seen.extend(charge_meetings(before, call, after));
+    seen
+}
+
+/// The level of the running task; without one level 0, which is empty and has no slice.
+fn running_level(kernel: &Kernel) -> &Level {
+    &kernel.levels[kernel.tasks[kernel.running()].priority as usize]
+}
+
+fn is_alone(kernel: &Kernel) -> bool {
+    running_level(kernel).queue.as_slice().len() == 1
+}
+
+fn is_at_the_end_of_its_slice(kernel: &Kernel) -> bool {
+    kernel.tasks[kernel.running()].charge + 1 == running_level(kernel).slice
+}
+
+/// Those of charges: what a call does to a task that has one.
+fn charge_meetings(before: &Kernel, call: &Call, after: &Kernel) -> Vec<&'static str> {
+    let mut seen = Vec::new();
+    for (t, (old, new)) in before.tasks.iter().zip(&after.tasks).enumerate().filter(|(_, (old, _))| old.charge > 0) {
+        let runs = t == before.running();
+        let named = call.a as usize == t;
+        match call.service {
+            TICK if runs && new.charge > old.charge => seen.push("a charge rises above 1"),
+            TICK if runs && is_alone(before) => seen.push("a charge of a task that is alone goes back"),
+            EXIT if runs && new.is_runnable() => seen.push("an exit restarts in the middle of a slice"),
+            SLEEP | ACQUIRE | EVENT_WAIT if runs && !new.is_runnable() => {
+                seen.push("a wait begins in the middle of a slice")
+            }
+            SLEEP | ACQUIRE | EVENT_WAIT if runs => seen.push("a wait is met at once in the middle of a slice"),
+            SUSPEND if named && runs => seen.push("a task suspends itself in the middle of its slice"),
+            SUSPEND | TERMINATE if named => seen.push("a preempted task is stopped in the middle of its slice"),
+            CHANGE_PRIORITY if named && new.priority == old.priority => seen.push("an equal priority and a charge"),
+            CHANGE_PRIORITY if named => seen.push("another priority in the middle of a slice"),
+            TSLICE if call.a == u32::from(old.priority) => seen.push("a slice is set in the middle of one"),
+            _ if runs && new.charge == old.charge && after.running() != t => seen.push("a preempted task has a charge"),
+            _ => {}
+        }
     }
     seen
 }
@@ -168,7 +204,7 @@ fn flag_meetings(before: &Kernel, call: &Call, after: &Kernel) -> Vec<&'static s
     seen
 }
 
-const MEETINGS: usize = 43;
+const MEETINGS: usize = 53;
 
 #[test]
 fn random_calls_reach_every_code_and_meeting() {
@@ -201,6 +237,54 @@ fn random_calls_reach_every_code_and_meeting() {
     for (what, times) in met {
         assert!(times >= 20, "{what} only {times} times");
     }
+}
+
+/// Who has a charge that was not there before, and how it stands to the slice of the level.
+fn charged(sound: &State, task: usize, charge: u32) -> (&'static str, &'static str) {
+    let kernel = load(sound).expect("the state before is sound");
+    let record = kernel.tasks[task];
+    let level = &kernel.levels[record.priority as usize];
+    let who = match level.queue.as_slice().iter().position(|&t| usize::from(t) == task) {
+        Some(0) => "first",
+        Some(1) => "second",
+        Some(_) => "further back",
+        None if record.base == 0 => "not created",
+        None if !record.active => "dormant",
+        None if record.is_waiting() => "waiting",
+        None => "suspended",
+    };
+    let how = match charge.cmp(&u32::from(level.slice)) {
+        _ if charge == 0 => "none",
+        _ if level.slice == 0 => "no slice",
+        std::cmp::Ordering::Less => "below",
+        std::cmp::Ordering::Equal => "at",
+        std::cmp::Ordering::Greater => "above",
+    };
+    (who, how)
+}
+
+#[test]
+fn damaged_charges_are_of_every_kind() {
+    let mut rng = Rng::new(17);
+    let mut met: BTreeMap<_, usize> = BTreeMap::new();
+    for seed in 0..1_000 {
+        let (_, state) = reached(seed);
+        let picked = std::iter::repeat_with(|| damage(&mut rng, &state)).take(10);
+        for damage in picked.chain(charges(&state)) {
+            let Some(task) = (1..=24).find(|&t| damage.slot == charge_of(t)) else { continue };
+            let kind = charged(&state, task, damage.value);
+            let harmless = kind.1 == "none" || kind == ("first", "below");
+            assert_eq!(is_sound(&damage.apply(&state)), harmless, "seed {seed}, {damage}: {kind:?}");
+            *met.entry(kind).or_default() += 1;
+        }
+    }
+    println!("{met:#?}");
+    for who in ["first", "second", "further back", "waiting", "suspended", "dormant"] {
+        for how in ["no slice", "below", "at", "above"] {
+            assert!(met.get(&(who, how)).is_some_and(|&times| times >= 20), "{who}, {how}");
+        }
+    }
+    assert!(met[&("first", "none")] >= 20 && met[&("not created", "no slice")] >= 20);
 }
 
 #[test]

@@ -1,4 +1,4 @@
-//! Corner cases of the calls, one test each, and the vectors V1, V6, V7, V9, V14 and V15.
+//! Corner cases of the calls, one test each, and the vectors V1, V6, V7, V9, V14 and V15, the last as request P3 has it.
 //! Refusals name the code and show by the bench that nothing has changed.
 
 mod common;
@@ -61,15 +61,16 @@ fn vector_14_a_suspended_first_waiter_is_served() {
 }
 
 #[test]
-fn vector_15_the_charge_of_an_empty_level_stays() {
+fn vector_15_an_empty_level_has_no_charge() {
     let mut bench = made(&[(TSLICE, 6, 3, 0), (CREATE, 1, 6, 1)]);
     bench.tick();
     bench.tick();
+    assert_eq!(bench.charge(1), 2);
     bench.call1(SLEEP, 50);
-    assert_eq!(bench.kernel.levels[6].charge, 2);
+    assert_eq!(bench.charge(1), 0);
     bench.call(CREATE, 2, 6, 1);
     bench.call(CREATE, 3, 6, 1);
-    assert_eq!(bench.tick(), 3);
+    assert_eq!([bench.tick(), bench.tick(), bench.tick()], [2, 2, 3]);
     assert_eq!(bench.level(6), [3, 2]);
 }
 
@@ -240,15 +241,19 @@ fn ruling_28_to_31_charges() {
     bench.call(CREATE, 1, 6, 1);
     bench.tick();
     bench.tick();
-    bench.call(CREATE, 2, 4, 1); // takes over; the lower level's charge stays
+    bench.call(CREATE, 2, 4, 1); // takes over; 1 keeps its charge, and 2 gets none without a slice
     bench.tick();
-    assert_eq!((bench.kernel.levels[6].charge, bench.kernel.levels[4].charge), (2, 0));
+    assert_eq!((bench.charge(1), bench.charge(2)), (2, 0));
     bench.call(CHANGE_PRIORITY, 2, 8, 0);
     bench.tick(); // alone in its level: back to 0 without a move
-    assert_eq!((bench.kernel.levels[6].charge, bench.level(6)), (0, &[1][..]));
+    assert_eq!((bench.charge(1), bench.level(6)), (0, &[1][..]));
     bench.tick();
+    assert_eq!(bench.charge(1), 1);
     bench.call(TSLICE, 6, 3, 0); // the same slice again clears the charge
-    assert_eq!(bench.kernel.levels[6].charge, 0);
+    assert_eq!(bench.charge(1), 0);
+    bench.tick();
+    bench.call(CHANGE_PRIORITY, 1, 7, 0); // in the middle of its slice
+    assert_eq!((bench.charge(1), bench.level(7)), (0, &[1][..]));
 }
 
 #[test]

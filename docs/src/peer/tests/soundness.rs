@@ -9,7 +9,7 @@ use peer::services::*;
 use peer::slots::{self, SLOTS, TABLES, TASK_FIELDS};
 use peer::sound::is_sound;
 
-/// Level 5: [1, 2]; 3 waits on semaphore 4 and is suspended, then 6; 7 sleeps; 8 is dormant, 9 suspended.
+/// Level 5, slice 3: [1, 2], 1 with charge 1; 3 waits on semaphore 4 and is suspended, then 6; 7 sleeps; 8 is dormant, 9 suspended.
 fn sample() -> State {
     let calls = [
         (SEM_CREATE, 4, 0, 9),
@@ -55,9 +55,13 @@ fn sound_as_it_is_and_at_any_time() {
 
 #[test]
 fn harmless_changes() {
-    assert!(with(|s| s.levels[5].places.swap(0, 1)));
+    assert!(with(|s| {
+        s.levels[5].places.swap(0, 1);
+        (s.tasks[1].charge, s.tasks[2].charge) = (0, 2);
+    }));
     assert!(with(|s| s.waits[4].places.swap(0, 1)));
-    assert!(with(|s| s.numbers.charges[5] = 2));
+    assert!(with(|s| s.tasks[1].charge = 2));
+    assert!(with(|s| s.tasks[1].charge = 0));
     assert!(with(|s| s.numbers.slices[5] = 1_000));
     assert!(with(|s| s.numbers.counts[12] = 65_535));
     assert!(with(|s| s.tasks[6].wait.remaining = FOREVER));
@@ -119,10 +123,38 @@ fn counts_and_numbers() {
     assert!(!with(|s| s.numbers.maxima[4] = 0)); // waited on, not created
     assert!(!with(|s| s.numbers.counts[1] = 1)); // not created, not all zeros
     assert!(!with(|s| s.numbers.slices[9] = 1_001));
-    assert!(!with(|s| s.numbers.charges[5] = 3)); // at the slice
-    assert!(!with(|s| s.numbers.charges[9] = 1)); // no slice
-    assert!(!with(|s| s.numbers.slices[5] = 1)); // charge 1
+    assert!(!with(|s| s.numbers.slices[5] = 1)); // 1 has charge 1
     assert!(!with(|s| s.numbers.slices[5] = 0));
+}
+
+/// The first of a level alone, and below its slice.
+#[test]
+fn charges() {
+    assert_eq!(sample().tasks[1].charge, 1);
+    assert!(!with(|s| s.tasks[1].charge = 3)); // at the slice
+    assert!(!with(|s| s.tasks[1].charge = 4));
+    assert!(!with(|s| s.levels[5].places.swap(0, 1))); // first no more
+    assert!(!with(|s| (s.tasks[1].charge, s.tasks[2].charge) = (0, 1))); // the second
+    assert!(!with(|s| s.tasks[2].charge = 1)); // it too
+    for t in [3, 6, 7, 8, 9, 10] {
+        // two wait on a semaphore, the others are asleep, dormant, suspended and not created
+        for charge in [1, 2, u32::MAX] {
+            assert!(!with(|s| s.tasks[t].charge = charge), "task {t}");
+            assert!(!with(|s| {
+                s.numbers.slices = [1_000; 31];
+                s.numbers.slices[0] = 0;
+                s.tasks[t].charge = charge;
+            }));
+        }
+    }
+    let another_level = |s: &mut State, slice: u32| {
+        (s.tasks[2].priority, s.tasks[2].charge) = (6, 1);
+        (s.levels[5].places[1], s.levels[6].places[0]) = (0, 2);
+        s.numbers.slices[6] = slice;
+    };
+    assert!(with(|s| another_level(s, 2))); // each level has its first
+    assert!(!with(|s| another_level(s, 1)));
+    assert!(!with(|s| another_level(s, 0)));
 }
 
 /// Each of these would pass by its lower 16 bits.
@@ -131,8 +163,9 @@ fn numbers_are_looked_at_whole() {
     for more in [65_536, 1 << 24, u32::MAX << 16] {
         assert!(!with(|s| s.numbers.slices[5] += more));
         assert!(!with(|s| s.numbers.slices[9] = more));
-        assert!(!with(|s| s.numbers.charges[5] += more));
-        assert!(!with(|s| s.numbers.charges[9] = more));
+        assert!(!with(|s| s.tasks[1].charge += more));
+        assert!(!with(|s| s.tasks[1].charge = more));
+        assert!(!with(|s| s.tasks[8].charge = more));
         assert!(!with(|s| s.numbers.counts[4] = more));
         assert!(!with(|s| s.numbers.counts[12] += more));
         assert!(!with(|s| s.numbers.maxima[1] = more));

@@ -79,6 +79,10 @@ impl Bench {
         self.kernel.tasks[task].handed
     }
 
+    pub fn charge(&self, task: usize) -> u16 {
+        self.kernel.tasks[task].charge
+    }
+
     pub fn code(&self, task: usize) -> i32 {
         self.kernel.tasks[task].wait_code.into()
     }
