@@ -40,6 +40,7 @@ of-records =
     of records.with_suspended.signature (λ M. records.with_suspended.clauses) (λ M. records.with_suspended.Met.met) (λ w κs a g h o p. plain w result) ∷
     of records.with_wakeups.signature (λ M. records.with_wakeups.clauses) (λ M. records.with_wakeups.Met.met) (λ w κs a g h o p. plain w result) ∷
     of records.with_activations.signature (λ M. records.with_activations.clauses) (λ M. records.with_activations.Met.met) (λ w κs a g h o p. plain w result) ∷
+    of records.settled.signature (λ M. records.settled.clauses) (λ M. records.settled.Met.met) (λ w κs a g h o p. plain w result) ∷
     of records.waiting.signature (λ M. records.waiting.clauses) (λ M. records.waiting.Met.met) (λ w κs a g h o p. plain w result) ∷
     of records.ended.signature (λ M. records.ended.clauses) (λ M. records.ended.Met.met) (λ w κs a g h o p. plain w result) ∷
     of records.is_met.signature (λ M. records.is_met.clauses) (λ M. records.is_met.Met.met) (λ w κs a g h o p. plain w result) ∷
@@ -64,6 +65,7 @@ of-queues =
     of queues.lent.best.signature (λ M. queues.lent.best.clauses) (λ M. queues.lent.best.Met.met) (λ w κs a g h o p. plain w result) ∷
     typed queues.lent.relist_levels.signature (λ M. queues.lent.relist_levels.clauses) (λ M. queues.lent.relist_levels.Met.met) (λ w κs a g h o p. given w (λ i j. laws.queues 31 i j)) ∷
     typed queues.lent.turn_level.signature (λ M. queues.lent.turn_level.clauses) (λ M. queues.lent.turn_level.Met.met) (λ w κs a g h o p. given w (λ i j. laws.queues 31 i j)) ∷
+    of queues.lent.first_of_level.signature (λ M. queues.lent.first_of_level.clauses) (λ M. queues.lent.first_of_level.Met.met) (λ w κs a g h o p. plain w result) ∷
     of queues.lent.first_waiter.signature (λ M. queues.lent.first_waiter.clauses) (λ M. queues.lent.first_waiter.Met.met) (λ w κs a g h o p. plain w result) ∷
     typed queues.lent.relist_waits.signature (λ M. queues.lent.relist_waits.clauses) (λ M. queues.lent.relist_waits.Met.met) (λ w κs a g h o p. given w (λ i j. laws.queues 21 i j)) ∷
     of queues.lent.waiters.signature (λ M. queues.lent.waiters.clauses) (λ M. queues.lent.waiters.Met.met) (λ w κs a g h o p. plain w result) ∷
@@ -74,6 +76,8 @@ of-stored =
     of stored.record_at.signature (λ M. stored.record_at.clauses) (λ M. stored.record_at.Met.met) (λ w κs a g h o p. plain w result) ∷
     typed stored.put_record.signature (λ M. stored.put_record.clauses) (λ M. stored.put_record.Met.met) (λ w κs a g h o p. given w (λ i j. laws.records i j)) ∷
     typed stored.put_remaining.signature (λ M. stored.put_remaining.clauses) (λ M. stored.put_remaining.Met.met) (λ w κs a g h o p. given w (λ i j. words (a .0 .now) i j)) ∷
+    typed stored.put_charge.signature (λ M. stored.put_charge.clauses) (λ M. stored.put_charge.Met.met) (λ w κs a g h o p. given w (λ i j. words (a .0 .now) i j)) ∷
+    of stored.charge_at.signature (λ M. stored.charge_at.clauses) (λ M. stored.charge_at.Met.met) (λ w κs a g h o p. plain w result) ∷
     typed stored.spread.signature (λ M. stored.spread.clauses) (λ M. stored.spread.Met.met) (λ w κs a g h o p. given w (λ i j. laws.records i j)) ∷
     of stored.gather.signature (λ M. stored.gather.clauses) (λ M. stored.gather.Met.met) (λ w κs a g h o p. plain w result) ∷
     []
@@ -81,14 +85,12 @@ of-stored =
 pub of-numbers : List Promise
 of-numbers =
     of numbers.slice_at.signature (λ M. numbers.slice_at.clauses) (λ M. numbers.slice_at.Met.met) (λ w κs a g h o p. plain w result) ∷
-    of numbers.charge_at.signature (λ M. numbers.charge_at.clauses) (λ M. numbers.charge_at.Met.met) (λ w κs a g h o p. plain w result) ∷
     of numbers.count_at.signature (λ M. numbers.count_at.clauses) (λ M. numbers.count_at.Met.met) (λ w κs a g h o p. plain w result) ∷
     of numbers.maximum_at.signature (λ M. numbers.maximum_at.clauses) (λ M. numbers.maximum_at.Met.met) (λ w κs a g h o p. plain w result) ∷
     of numbers.attributes_at.signature (λ M. numbers.attributes_at.clauses) (λ M. numbers.attributes_at.Met.met) (λ w κs a g h o p. plain w result) ∷
     of numbers.bits_at.signature (λ M. numbers.bits_at.clauses) (λ M. numbers.bits_at.Met.met) (λ w κs a g h o p. plain w result) ∷
     of numbers.time_in.signature (λ M. numbers.time_in.clauses) (λ M. numbers.time_in.Met.met) (λ w κs a g h o p. plain w result) ∷
     typed numbers.put_slice.signature (λ M. numbers.put_slice.clauses) (λ M. numbers.put_slice.Met.met) (λ w κs a g h o p. given w (λ i j. laws.numbers i j)) ∷
-    typed numbers.put_charge.signature (λ M. numbers.put_charge.clauses) (λ M. numbers.put_charge.Met.met) (λ w κs a g h o p. given w (λ i j. laws.numbers i j)) ∷
     typed numbers.put_count.signature (λ M. numbers.put_count.clauses) (λ M. numbers.put_count.Met.met) (λ w κs a g h o p. given w (λ i j. laws.numbers i j)) ∷
     typed numbers.put_maximum.signature (λ M. numbers.put_maximum.clauses) (λ M. numbers.put_maximum.Met.met) (λ w κs a g h o p. given w (λ i j. laws.numbers i j)) ∷
     typed numbers.put_attributes.signature (λ M. numbers.put_attributes.clauses) (λ M. numbers.put_attributes.Met.met) (λ w κs a g h o p. given w (λ i j. laws.numbers i j)) ∷
@@ -175,7 +177,8 @@ of-sound_parts =
     of sound_parts.flag.is_unmet.signature (λ M. sound_parts.flag.is_unmet.clauses) (λ M. sound_parts.flag.is_unmet.Met.met) (λ w κs a g h o p. plain w result) ∷
     of sound_parts.flag.second_waiter.signature (λ M. sound_parts.flag.second_waiter.clauses) (λ M. sound_parts.flag.second_waiter.Met.met) (λ w κs a g h o p. plain w result) ∷
     of sound_parts.record.task_sound.signature (λ M. sound_parts.record.task_sound.clauses) (λ M. sound_parts.record.task_sound.Met.met) (λ w κs a g h o p. plain w result) ∷
-    of sound_parts.record.rate_sound.signature (λ M. sound_parts.record.rate_sound.clauses) (λ M. sound_parts.record.rate_sound.Met.met) (λ w κs a g h o p. plain w result) ∷
+    of sound_parts.record.slice_sound.signature (λ M. sound_parts.record.slice_sound.clauses) (λ M. sound_parts.record.slice_sound.Met.met) (λ w κs a g h o p. plain w result) ∷
+    of sound_parts.record.charge_sound.signature (λ M. sound_parts.record.charge_sound.clauses) (λ M. sound_parts.record.charge_sound.Met.met) (λ w κs a g h o p. plain w result) ∷
     of sound_parts.record.count_sound.signature (λ M. sound_parts.record.count_sound.clauses) (λ M. sound_parts.record.count_sound.Met.met) (λ w κs a g h o p. plain w result) ∷
     of sound_parts.record.is_origin.signature (λ M. sound_parts.record.is_origin.clauses) (λ M. sound_parts.record.is_origin.Met.met) (λ w κs a g h o p. plain w result) ∷
     []
@@ -190,7 +193,7 @@ pub of-effects : List Promise
 of-effects =
     typed effects.move_from.signature (λ M. effects.move_from.clauses) (λ M. effects.move_from.Met.met) (λ w κs a g h o p. given w (λ i j. four (a .1 .1 .1 .1 .0 .now) i j)) ∷
     typed effects.move_task.signature (λ M. effects.move_task.clauses) (λ M. effects.move_task.Met.met) (λ w κs a g h o p. given w (λ i j. four (a .1 .1 .1 .1 .0 .now) i j)) ∷
-    typed effects.charge.signature (λ M. effects.charge.clauses) (λ M. effects.charge.Met.met) (λ w κs a g h o p. given w (λ i j. charged (a .0 .now) (a .1 .0 .now) (a .1 .1 .1 .0 .now) i j)) ∷
+    typed effects.charge.signature (λ M. effects.charge.clauses) (λ M. effects.charge.Met.met) (λ w κs a g h o p. given w (λ i j. charged (a .0 .now) (a .1 .1 .1 .0 .now) (a .1 .1 .1 .1 .0 .now) i j)) ∷
     typed effects.lapse.signature (λ M. effects.lapse.clauses) (λ M. effects.lapse.Met.met) (λ w κs a g h o p. given w (λ i j. four (a .1 .1 .1 .1 .0 .now) i j)) ∷
     typed effects.tell_all.signature (λ M. effects.tell_all.clauses) (λ M. effects.tell_all.Met.met) (λ w κs a g h o p. given w (λ i j. four (a .1 .1 .1 .1 .0 .now) i j)) ∷
     []

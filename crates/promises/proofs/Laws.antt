@@ -93,22 +93,38 @@ Lent R n ℓ κ = OfType (MutRef ℓ κ (Array R n))
 long : (R : RattleType) (n : ℕ) {ℓ : Lifetime} {κ : Lft} {x : RefT (List (R .Denot))} {v : List (R .Denot)} → Lent R n ℓ κ x v → length v ≡ n
 long R n {ℓ} {κ} {x} {v} i = i .stands ℓ κ (Array R n) x v refl .1 .1 .0 .1
 
+-- the five tables, each of its length
+abbrev Bytes : Lifetime → Lft → RefT (List ℕ) → List ℕ → Type 2
+Bytes = Lent u8 300
+
+abbrev Words : Lifetime → Lft → RefT (List ℕ) → List ℕ → Type 2
+Words = Lent u32 100
+
+abbrev Levels : Lifetime → Lft → RefT (List ℕ) → List ℕ → Type 2
+Levels = Lent u8 744
+
+abbrev Waits : Lifetime → Lft → RefT (List ℕ) → List ℕ → Type 2
+Waits = Lent u8 504
+
+abbrev Numbered : Lifetime → Lft → RefT (List ℕ) → List ℕ → Type 2
+Numbered = Lent u32 76
+
 -- the bytes and the words of the records
 pub records : {ℓ ℓ₂ : Lifetime} {κ κ₂ : Lft} {x x₂ : RefT (List ℕ)} {X Y : Type 2} {b c v w : List ℕ} {d : List Task} {U : Type 0} {u : U}
-    → Lent u8 300 ℓ κ x b × (Lent u32 75 ℓ₂ κ₂ x₂ v × X) → Lent u8 300 ℓ κ x c × (Lent u32 75 ℓ₂ κ₂ x₂ w × Y) → tasksOf b v ≡ d → tasksOf c w ≡ d
+    → Bytes ℓ κ x b × (Words ℓ₂ κ₂ x₂ v × X) → Bytes ℓ κ x c × (Words ℓ₂ κ₂ x₂ w × Y) → tasksOf b v ≡ d → tasksOf c w ≡ d
     → _≡_ {A = Unit {0} × (List ℕ × (List ℕ × U))} (tt, (b, (v, u))) (tt, (c, (w, u)))
 records {b = b} {c = c} {v = v} {w = w} {u = u} i j p q k =
-    (tt, (same-bytes b v c w (long u8 300 (i .0)) (long u8 300 (j .0)) (p ∙ sym q) k, (same-words b v c w (long u32 75 (i .1 .0)) (long u32 75 (j .1 .0)) (p ∙ sym q) k, u)))
+    (tt, (same-bytes b v c w (long u8 300 (i .0)) (long u8 300 (j .0)) (p ∙ sym q) k, (same-words b v c w (long u32 100 (i .1 .0)) (long u32 100 (j .1 .0)) (p ∙ sym q) k, u)))
 
 -- the words alone, where the bytes are only read
 pub words : {ℓ : Lifetime} {κ : Lft} {x : RefT (List ℕ)} {W X Y Z : Type 2} {U : Type 0} {u : U} {v w : List ℕ} {d : List Task} (b : List ℕ)
-    → W × (Lent u32 75 ℓ κ x v × X) → Y × (Lent u32 75 ℓ κ x w × Z) → tasksOf b v ≡ d → tasksOf b w ≡ d → _≡_ {A = Unit {0} × (Unit {0} × (List ℕ × U))} (tt, (tt, (v, u))) (tt, (tt, (w, u)))
-words {u = u} {v = v} {w = w} b i j p q k = (tt, (tt, (same-words b v b w (long u32 75 (i .1 .0)) (long u32 75 (j .1 .0)) (p ∙ sym q) k, u)))
+    → W × (Words ℓ κ x v × X) → Y × (Words ℓ κ x w × Z) → tasksOf b v ≡ d → tasksOf b w ≡ d → _≡_ {A = Unit {0} × (Unit {0} × (List ℕ × U))} (tt, (tt, (v, u))) (tt, (tt, (w, u)))
+words {u = u} {v = v} {w = w} b i j p q k = (tt, (tt, (same-words b v b w (long u32 100 (i .1 .0)) (long u32 100 (j .1 .0)) (p ∙ sym q) k, u)))
 
 -- the numbers
-pub numbers : {ℓ : Lifetime} {κ : Lft} {x : RefT (List ℕ)} {X Y : Type 2} {U : Type 0} {u : U} {n m : List ℕ} {d : Numbers} → Lent u32 107 ℓ κ x n × X → Lent u32 107 ℓ κ x m × Y → heldIn n ≡ d → heldIn m ≡ d
+pub numbers : {ℓ : Lifetime} {κ : Lft} {x : RefT (List ℕ)} {X Y : Type 2} {U : Type 0} {u : U} {n m : List ℕ} {d : Numbers} → Numbered ℓ κ x n × X → Numbered ℓ κ x m × Y → heldIn n ≡ d → heldIn m ≡ d
     → _≡_ {A = Unit {0} × (List ℕ × U)} (tt, (n, u)) (tt, (m, u))
-numbers {u = u} {n = n} {m = m} i j p q k = (tt, (same-numbers n m (long u32 107 (i .0)) (long u32 107 (j .0)) (p ∙ sym q) k, u))
+numbers {u = u} {n = n} {m = m} i j p q k = (tt, (same-numbers n m (long u32 76 (i .0)) (long u32 76 (j .0)) (p ∙ sym q) k, u))
 
 -- n queues
 pub queues : {ℓ : Lifetime} {κ : Lft} {x : RefT (List ℕ)} {X Y : Type 2} (n : ℕ) {U : Type 0} {u : U} {l m : List ℕ} {d : List Queue} → Lent u8 (n * 24) ℓ κ x l × X → Lent u8 (n * 24) ℓ κ x m × Y → queuesOf n l ≡ d → queuesOf n m ≡ d
@@ -117,8 +133,8 @@ queues n {u = u} {l = l} {m = m} i j p q k = (tt, (same-queues n l m (long u8 (n
 
 -- all five, from the state that they stand for or what has one; the outcome is read off
 pub five : {ℓ ℓ₂ ℓ₃ ℓ₄ ℓ₅ : Lifetime} {κ κ₂ κ₃ κ₄ κ₅ : Lft} {x x₂ x₃ x₄ x₅ : RefT (List ℕ)} {X Y : Type 2} {b c v w l m q r n o : List ℕ} {A O : Type 0} {s t d : A} (state : A → State) (off : List ℕ → List ℕ → List ℕ → List ℕ → List ℕ → A → O)
-    → Lent u8 300 ℓ κ x b × (Lent u32 75 ℓ₂ κ₂ x₂ v × (Lent u8 744 ℓ₃ κ₃ x₃ l × (Lent u8 504 ℓ₄ κ₄ x₄ q × (Lent u32 107 ℓ₅ κ₅ x₅ n × X))))
-    → Lent u8 300 ℓ κ x c × (Lent u32 75 ℓ₂ κ₂ x₂ w × (Lent u8 744 ℓ₃ κ₃ x₃ m × (Lent u8 504 ℓ₄ κ₄ x₄ r × (Lent u32 107 ℓ₅ κ₅ x₅ o × Y))))
+    → Bytes ℓ κ x b × (Words ℓ₂ κ₂ x₂ v × (Levels ℓ₃ κ₃ x₃ l × (Waits ℓ₄ κ₄ x₄ q × (Numbered ℓ₅ κ₅ x₅ n × X))))
+    → Bytes ℓ κ x c × (Words ℓ₂ κ₂ x₂ w × (Levels ℓ₃ κ₃ x₃ m × (Waits ℓ₄ κ₄ x₄ r × (Numbered ℓ₅ κ₅ x₅ o × Y))))
     → state s ≡ stateIn b v l q n → state t ≡ stateIn c w m r o → s ≡ d → t ≡ d → off b v l q n s ≡ off c w m r o t
 five {b = b} {c = c} {v = v} {w = w} {l = l} {m = m} {q = q} {r = r} {n = n} {o = o} {s = s} {t = t} state off i j e f g h =
     let a : s ≡ t = g ∙ sym h in
@@ -126,16 +142,16 @@ five {b = b} {c = c} {v = v} {w = w} {l = l} {m = m} {q = q} {r = r} {n = n} {o 
     let ts : tasksOf b v ≡ tasksOf c w = ap (λ (y : State). y .tasks) z in
     λ k. off
     (same-bytes b v c w (long u8 300 (i .0)) (long u8 300 (j .0)) ts k)
-    (same-words b v c w (long u32 75 (i .1 .0)) (long u32 75 (j .1 .0)) ts k)
+    (same-words b v c w (long u32 100 (i .1 .0)) (long u32 100 (j .1 .0)) ts k)
     (same-queues 31 l m (long u8 744 (i .1 .1 .0)) (long u8 744 (j .1 .1 .0)) (ap (λ (y : State). y .levels) z) k)
     (same-queues 21 q r (long u8 504 (i .1 .1 .1 .0)) (long u8 504 (j .1 .1 .1 .0)) (ap (λ (y : State). y .waits) z) k)
-    (same-numbers n o (long u32 107 (i .1 .1 .1 .1 .0)) (long u32 107 (j .1 .1 .1 .1 .0)) (ap (λ (y : State). y .numbers) z) k)
+    (same-numbers n o (long u32 76 (i .1 .1 .1 .1 .0)) (long u32 76 (j .1 .1 .1 .1 .0)) (ap (λ (y : State). y .numbers) z) k)
     (a k)
 
 -- all but the numbers, which are only read
 pub four : {ℓ ℓ₂ ℓ₃ ℓ₄ : Lifetime} {κ κ₂ κ₃ κ₄ : Lft} {x x₂ x₃ x₄ : RefT (List ℕ)} {X Y : Type 2} {b c v w l m q r : List ℕ} {d : State} {U : Type 0} {u : U} (n : List ℕ)
-    → Lent u8 300 ℓ κ x b × (Lent u32 75 ℓ₂ κ₂ x₂ v × (Lent u8 744 ℓ₃ κ₃ x₃ l × (Lent u8 504 ℓ₄ κ₄ x₄ q × X)))
-    → Lent u8 300 ℓ κ x c × (Lent u32 75 ℓ₂ κ₂ x₂ w × (Lent u8 744 ℓ₃ κ₃ x₃ m × (Lent u8 504 ℓ₄ κ₄ x₄ r × Y)))
+    → Bytes ℓ κ x b × (Words ℓ₂ κ₂ x₂ v × (Levels ℓ₃ κ₃ x₃ l × (Waits ℓ₄ κ₄ x₄ q × X)))
+    → Bytes ℓ κ x c × (Words ℓ₂ κ₂ x₂ w × (Levels ℓ₃ κ₃ x₃ m × (Waits ℓ₄ κ₄ x₄ r × Y)))
     → stateIn b v l q n ≡ d → stateIn c w m r n ≡ d
     → _≡_ {A = Unit {0} × (List ℕ × (List ℕ × (List ℕ × (List ℕ × (Unit {0} × U)))))} (tt, (b, (v, (l, (q, (tt, u)))))) (tt, (c, (w, (m, (r, (tt, u))))))
 four {b = b} {c = c} {v = v} {w = w} {l = l} {m = m} {q = q} {r = r} {u = u} n i j e f =
@@ -146,7 +162,7 @@ four {b = b} {c = c} {v = v} {w = w} {l = l} {m = m} {q = q} {r = r} {u = u} n i
       (
         same-bytes b v c w (long u8 300 (i .0)) (long u8 300 (j .0)) ts k,
         (
-          same-words b v c w (long u32 75 (i .1 .0)) (long u32 75 (j .1 .0)) ts k,
+          same-words b v c w (long u32 100 (i .1 .0)) (long u32 100 (j .1 .0)) ts k,
           (
             same-queues 31 l m (long u8 744 (i .1 .1 .0)) (long u8 744 (j .1 .1 .0)) (ap (λ (y : State). y .levels) z) k,
             (same-queues 21 q r (long u8 504 (i .1 .1 .1 .0)) (long u8 504 (j .1 .1 .1 .0)) (ap (λ (y : State). y .waits) z) k, (tt, u)),
@@ -155,23 +171,20 @@ four {b = b} {c = c} {v = v} {w = w} {l = l} {m = m} {q = q} {r = r} {u = u} n i
       ),
     )
 
--- the levels and the numbers, where the others are only read
-pub charged : {ℓ₃ ℓ₅ : Lifetime} {κ₃ κ₅ : Lft} {x₃ x₅ : RefT (List ℕ)} {X Y : Type 2} {l m n o : List ℕ} {d : State} {G G₂ G₃ G₄ G₅ G₆ : Type 2} {U : Type 0} {u : U} (b v q : List ℕ)
-    → G × (G₂ × (Lent u8 744 ℓ₃ κ₃ x₃ l × (G₃ × (Lent u32 107 ℓ₅ κ₅ x₅ n × X)))) → G₄ × (G₅ × (Lent u8 744 ℓ₃ κ₃ x₃ m × (G₆ × (Lent u32 107 ℓ₅ κ₅ x₅ o × Y))))
-    → stateIn b v l q n ≡ d → stateIn b v m q o ≡ d
-    → _≡_ {A = Unit {0} × (Unit {0} × (Unit {0} × (List ℕ × (Unit {0} × (List ℕ × U)))))} (tt, (tt, (tt, (l, (tt, (n, u)))))) (tt, (tt, (tt, (m, (tt, (o, u))))))
-charged {l = l} {m = m} {n = n} {o = o} {u = u} b v q i j e f =
-    let z : stateIn b v l q n ≡ stateIn b v m q o = e ∙ sym f in
+-- the words and the levels, where the others are only read
+pub charged : {ℓ₂ ℓ₃ : Lifetime} {κ₂ κ₃ : Lft} {x₂ x₃ : RefT (List ℕ)} {X Y : Type 2} {v w l m : List ℕ} {d : State} {G G₂ : Type 2} {U : Type 0} {u : U} (b q n : List ℕ)
+    → G × (Words ℓ₂ κ₂ x₂ v × (Levels ℓ₃ κ₃ x₃ l × X)) → G₂ × (Words ℓ₂ κ₂ x₂ w × (Levels ℓ₃ κ₃ x₃ m × Y))
+    → stateIn b v l q n ≡ d → stateIn b w m q n ≡ d
+    → _≡_ {A = Unit {0} × (Unit {0} × (List ℕ × (List ℕ × (Unit {0} × (Unit {0} × U)))))} (tt, (tt, (v, (l, (tt, (tt, u)))))) (tt, (tt, (w, (m, (tt, (tt, u))))))
+charged {v = v} {w = w} {l = l} {m = m} {u = u} b q n i j e f =
+    let z : stateIn b v l q n ≡ stateIn b w m q n = e ∙ sym f in
     λ k. (
       tt,
       (
         tt,
         (
-          tt,
-          (
-            same-queues 31 l m (long u8 744 (i .1 .1 .0)) (long u8 744 (j .1 .1 .0)) (ap (λ (y : State). y .levels) z) k,
-            (tt, (same-numbers n o (long u32 107 (i .1 .1 .1 .1 .0)) (long u32 107 (j .1 .1 .1 .1 .0)) (ap (λ (y : State). y .numbers) z) k, u)),
-          ),
+          same-words b v b w (long u32 100 (i .1 .0)) (long u32 100 (j .1 .0)) (ap (λ (y : State). y .tasks) z) k,
+          (same-queues 31 l m (long u8 744 (i .1 .1 .0)) (long u8 744 (j .1 .1 .0)) (ap (λ (y : State). y .levels) z) k, (tt, (tt, u))),
         ),
       ),
     )
