@@ -1,6 +1,6 @@
 -- One charged tick of a task in its level, test by test: what `charge` does on each of its ways is the definition's.
 -- It rests on the definitions alone.
-use mathlib.Core.Path.{_≡_, refl, sym, _∙_}
+use mathlib.Core.Path.{_≡_}
 use mathlib.Core.List.{List}
 use Prim.Native.Nat.{ℕ, _+_, _≤_, _<_}
 use lib.ListN.{set}
@@ -8,7 +8,7 @@ use borrow.Author.Tests.{eq-eqb, ne-eqb, lt-ltb, le-ltb}
 use Rattle.model.specs.declared.Queue.{Queue}
 use Rattle.model.specs.declared.Task.{Task}
 use Rattle.model.specs.declared.State.{State}
-use Rattle.model.specs.Row.{row, withRow, turned}
+use Rattle.model.specs.Row.{withRow, turned}
 use Rattle.model.specs.Task.{withCharge}
 use Rattle.model.specs.State.{recharged, rotated, slice, task, level}
 use Rattle.model.specs.Effect.{chargedIn}

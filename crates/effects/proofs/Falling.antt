@@ -13,7 +13,6 @@ use lib.Seq.{getD-set-other}
 use borrow.Author.Tests.{eq-eqb, ne-eqb}
 use Rattle.model.specs.declared.Task.{Task}
 use Rattle.model.specs.declared.State.{State}
-use Rattle.model.specs.Row.{relisted}
 use Rattle.model.specs.Task.{noTask, levelOf, rowOf, aged, ended, ranOut, withRemaining, endless}
 use Rattle.model.specs.State.{moved, movedFrom}
 use Rattle.model.specs.Effect.{lapsed}

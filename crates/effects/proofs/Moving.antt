@@ -1,8 +1,8 @@
 -- Moves of a state, and the loops made of them: a tick's timeouts, the news to those in a queue.
 -- Each law says what one turn of a loop leaves to do; they rest on the definitions alone.
-use mathlib.Core.Path.{_≡_, refl, sym, ap, _∙_}
-use mathlib.Core.List.{List, [], _∷_}
-use Prim.Native.Nat.{ℕ, zero, suc, _+_, _-_, _≤_, _<_}
+use mathlib.Core.Path.{_≡_, refl, ap, _∙_}
+use mathlib.Core.List.{List, _∷_}
+use Prim.Native.Nat.{ℕ, suc, _+_, _-_, _≤_, _<_}
 use native.Mathlib.Numerals.{add-one}
 use native.Mathlib.Omega.{arith}
 use lib.ListN.{getD, set, length, drop, drop-of-length-le}
@@ -13,7 +13,7 @@ use Rattle.model.specs.declared.Task.{Task}
 use Rattle.model.specs.declared.State.{State}
 use Rattle.model.specs.declared.News.{News}
 use Rattle.model.specs.Row.{relisted}
-use Rattle.model.specs.Task.{noTask, levelOf, rowOf, settled, aged, ended, told, ranOut, withRemaining, endless}
+use Rattle.model.specs.Task.{levelOf, rowOf, settled, aged, ended, told, ranOut, withRemaining, endless}
 use Rattle.model.specs.State.{moved, movedFrom, task}
 use Rattle.model.specs.Effect.{lapsed, toldAll}
 

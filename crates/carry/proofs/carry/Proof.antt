@@ -1,5 +1,5 @@
 -- `carry::carry` meets its contract: arm by arm.
-use mathlib.Core.Path.{refl, _∙_}
+use mathlib.Core.Path.{refl}
 use Rattle.tables.specs.Lent.{stateIn}
 use Rattle.carry.proofs.Arms as law
 use borrow.Author.Needs.{needs}
