@@ -16,7 +16,7 @@ use Rattle.model.specs.Row.{firstOf}
 use Rattle.model.specs.Flag.{flagRow}
 use Rattle.model.specs.Task.{dormant, activated, withCharge}
 use Rattle.model.specs.State.{task, time, waiters, moved, movedFrom, counted, flagged, sliced, recharged, noted, ofSlices, ofCounts, ofMaxima, ofAttributes, ofBits, ofTime}
-use Rattle.model.specs.Effect.{stopped, deleted, toldFlag, toldAll, charged, chargedIn, lapsed, tickedFrom, carriedFrom}
+use Rattle.model.specs.Effect.{stopped, deleted, toldFlag, toldAll, charged, lapsed, tickedFrom, carriedFrom}
 
 -- a state with other numbers
 abbrev with : State → Numbers → State
@@ -35,16 +35,6 @@ module _ (s : State) (t : ℕ) (k x : Task) (s₁ : State) (e : k ≡ task s t) 
   pub starts : (y : Task) (s₂ : State) → (k .activations ≡ 0 → ⊥) → y ≡ activated x → s₂ ≡ moved t y s₁ → s₂ ≡ stopped t s
   unfolding stopped
   starts y s₂ z f n = rw (← e, ne-eqb _ _ z) (rw (f, first, d, ← e) at n)
-
--- ---- who runs is charged
-module _ (run : ℕ) (s : State) where
-  pub idle : run ≡ 0 → s ≡ charged run s
-  unfolding charged
-  idle z = rw (eq-eqb _ _ z)
-
-  pub runs : (s₁ : State) (k : Task) → (run ≡ 0 → ⊥) → k ≡ task s run → s₁ ≡ chargedIn (k .priority) run s → s₁ ≡ charged run s
-  unfolding charged
-  runs s₁ k z e f = rw (ne-eqb _ _ z, ← e) f
 
 -- ---- a tick
 pub ticked : (run : ℕ) (s : State) (n : ℕ) (x : Numbers) (s₂ s₃ : State) → n ≡ (time s + 1) % 2 ^ 32 → x ≡ noted ofTime 0 n (s .numbers) → s₂ ≡ charged run (with s x) → s₃ ≡ lapsed 24 1 s₂ → s₃ ≡ tickedFrom run s

@@ -1,7 +1,7 @@
 // An effect carried out on the five tables, changed where they lie.
 // Every arm is a definition of model/specs/Effect, for every value; who runs is told, so that nobody looks twice.
 ghost use mathlib.Core.Path.{_≡_};
-ghost use Rattle.model.specs.Effect.{stopped, charged, tickedFrom, carriedFrom};
+ghost use Rattle.model.specs.Effect.{stopped, tickedFrom, carriedFrom};
 ghost use Rattle.tables.specs.Lent.{before, after};
 use effects::move_from;
 use effects::move_task;
@@ -39,25 +39,6 @@ fn stop_task(
     move_task(bytes, words, levels, waits, numbers, t, y);
 }
 
-// ---- the running task is charged, in its level; 0 has none
-fn charge_running(
-    bytes: &Bytes,
-    words: &mut Words,
-    levels: &mut Levels,
-    waits: &Waits,
-    numbers: &NumberTable,
-    run: u8,
-)
-    ensures { λ r. ⌜ after bytes words levels waits numbers ≡ charged run (before bytes words levels waits numbers) ⌝ }
-{
-    if run == 0 {
-        return;
-    }
-    let k = record_at(bytes, words, run as usize);
-    let level = k.priority as usize;
-    effects::charge(bytes, words, levels, waits, numbers, level, run);
-}
-
 // ---- a tick, where `run` runs: time goes up by one, who runs is charged, the timeouts fall
 pub fn tick(
     bytes: &mut Bytes,
@@ -71,7 +52,7 @@ pub fn tick(
 {
     let time = numbers::time_in(numbers);
     numbers::put_time(numbers, std::num::wrapping_add_u32(time, 1));
-    charge_running(bytes, words, levels, waits, numbers, run);
+    effects::charge(bytes, words, levels, waits, numbers, run);
     effects::lapse(bytes, words, levels, waits, numbers);
 }
 

@@ -4,7 +4,7 @@ ghost use mathlib.Core.Path.{_≡_};
 ghost use lib.ListN.{length};
 ghost use Rattle.model.specs.Task.{ranOut};
 ghost use Rattle.model.specs.State.{moved, movedFrom};
-ghost use Rattle.model.specs.Effect.{chargedIn, lapsed, toldAll};
+ghost use Rattle.model.specs.Effect.{charged, lapsed, toldAll};
 ghost use Rattle.tables.specs.Lent.{before, after};
 ghost use Rattle.effects.specs.Falling.{fallen, isDue, fallAll};
 use model::News;
@@ -21,7 +21,6 @@ use records::SLEEP;
 use records::TIMEOUT;
 use stored::Bytes;
 use stored::Words;
-use stored::charge_at;
 use stored::put_charge;
 use stored::put_record;
 use stored::put_remaining;
@@ -42,15 +41,12 @@ pub fn move_from(
 {
     let from = records::level_of(k);
     let to = records::level_of(x);
-    relist_levels(levels, from as usize, to as usize, t);
-    relist_waits(
-        waits,
-        records::row_of(k) as usize,
-        records::row_of(x) as usize,
-        t,
-    );
+    let left = records::row_of(k);
+    let joined = records::row_of(x);
     let settled = records::settled(k, x, from, to);
     put_record(bytes, words, t as usize, settled);
+    relist_levels(levels, from as usize, to as usize, t);
+    relist_waits(waits, left as usize, joined as usize, t);
 }
 
 pub fn move_task(
@@ -68,7 +64,7 @@ pub fn move_task(
     move_from(bytes, words, levels, waits, numbers, t, k, x);
 }
 
-// ---- one charged tick of a task in its level
+// ---- who runs is charged one tick, in its level; 0 has none
 fn wide(x: u32) -> u64
     ensures { λ r. ⌜ r ≡ x ⌝ }
 {
@@ -81,22 +77,26 @@ pub fn charge(
     levels: &mut Levels,
     waits: &Waits,
     numbers: &NumberTable,
-    l: usize,
-    t: u8,
+    run: u8,
 )
-    ensures { λ r. ⌜ after bytes words levels waits numbers ≡ chargedIn l t (before bytes words levels waits numbers) ⌝ }
+    ensures { λ r. ⌜ after bytes words levels waits numbers ≡ charged run (before bytes words levels waits numbers) ⌝ }
 {
-    let slice = numbers::slice_at(numbers, l);
-    let next = wide(charge_at(bytes, words, t as usize)) + 1;
+    if run == 0 {
+        return;
+    }
+    let k = record_at(bytes, words, run as usize);
+    let level = k.priority as usize;
+    let slice = numbers::slice_at(numbers, level);
     if slice == 0 {
         return;
     }
+    let next = wide(k.charge) + 1;
     if next < wide(slice) {
-        put_charge(bytes, words, t as usize, next as u32);
+        put_charge(bytes, words, run as usize, next as u32);
         return;
     }
-    put_charge(bytes, words, t as usize, 0);
-    turn_level(levels, l);
+    put_charge(bytes, words, run as usize, 0);
+    turn_level(levels, level);
 }
 
 // ---- the timeouts of a tick

@@ -77,7 +77,6 @@ of-stored =
     typed stored.put_record.signature (λ M. stored.put_record.clauses) (λ M. stored.put_record.Met.met) (λ w κs a g h o p. given w (λ i j. laws.records i j)) ∷
     typed stored.put_remaining.signature (λ M. stored.put_remaining.clauses) (λ M. stored.put_remaining.Met.met) (λ w κs a g h o p. given w (λ i j. words (a .0 .now) i j)) ∷
     typed stored.put_charge.signature (λ M. stored.put_charge.clauses) (λ M. stored.put_charge.Met.met) (λ w κs a g h o p. given w (λ i j. words (a .0 .now) i j)) ∷
-    of stored.charge_at.signature (λ M. stored.charge_at.clauses) (λ M. stored.charge_at.Met.met) (λ w κs a g h o p. plain w result) ∷
     typed stored.spread.signature (λ M. stored.spread.clauses) (λ M. stored.spread.Met.met) (λ w κs a g h o p. given w (λ i j. laws.records i j)) ∷
     of stored.gather.signature (λ M. stored.gather.clauses) (λ M. stored.gather.Met.met) (λ w κs a g h o p. plain w result) ∷
     []

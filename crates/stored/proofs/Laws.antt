@@ -200,12 +200,6 @@ pub fell : (b w : List ℕ) (t v : ℕ) → t < 25 → length w ≡ 100 → task
 fell b w t v h n = rw (read b w t h) (rw add-zero at (changed b w t 0 v (withRemaining (recordAt b w t) v) h (omega arith) n refl refl))
 
 -- a charge
-pub charge-in : (b w : List ℕ) (t : ℕ) → t < 25 → getD w (t + 75) 0 ≡ getD (tasksOf b w) t noTask .charge
-charge-in b w t h = ap (λ (x : Task). x .charge) (sym (read b w t h))
-
-pub no-charge : (b w : List ℕ) (t : ℕ) → 25 ≤ t → 0 ≡ getD (tasksOf b w) t noTask .charge
-no-charge b w t h = ap (λ (x : Task). x .charge) (sym (read-past b w t h))
-
 pub recharges : (b w : List ℕ) (t v : ℕ) → t < 25 → length w ≡ 100 → tasksOf b (set w (t + 75) v) ≡ set (tasksOf b w) t (withCharge (getD (tasksOf b w) t noTask) v)
 recharges b w t v h n = rw (read b w t h) (changed b w t 3 v (withCharge (recordAt b w t) v) h (omega arith) n refl refl)
 

@@ -116,7 +116,7 @@ pub fn put_remaining(bytes: &Bytes, words: &mut Words, t: usize, left: u32)
     w[t] = left;
 }
 
-// and its charge,
+// and its charge.
 pub fn put_charge(bytes: &Bytes, words: &mut Words, t: usize, n: u32)
     ensures { λ r. ⌜ tasksOf (now (bytes .entry)) (now (words .exit)) ≡ set (tasksOf (now (bytes .entry)) (now (words .entry))) t (withCharge (getD (tasksOf (now (bytes .entry)) (now (words .entry))) t noTask) n) ⌝ }
 {
@@ -125,16 +125,6 @@ pub fn put_charge(bytes: &Bytes, words: &mut Words, t: usize, n: u32)
     }
     let w: &mut [u32] = words;
     w[t + 75] = n;
-}
-
-// which is also read alone.
-pub fn charge_at(bytes: &Bytes, words: &Words, t: usize) -> u32
-    ensures { λ r. ⌜ r ≡ getD (tasksOf (now (bytes .entry)) (now (words .entry))) t noTask .charge ⌝ }
-{
-    if 24 < t {
-        return 0;
-    }
-    words[t + 75]
 }
 
 // ---- a table of records goes into the two tables,

@@ -7,7 +7,7 @@ use Rattle.carry.proofs.tick.Statement.{statement}
 use Rattle.carry.proofs.tick.Tie as tie
 
 returns : tie.Need-returns
-returns c = law.ticked _ (stateIn _ _ _ _ _) _ _ _ _ (c .before .before .before .before .before .before .before .before .before .before .before .before .before .wrapping-add-u32 .ensures ∙ rw (c .before .before .before .before .before .before .before .before .before .before .before .before .before .before .before .time-in .ensures)) (c .before .before .before .before .before .before .before .before .before .before .before .before .put-time .ensures) (c .before .before .before .before .before .before .charge-running .ensures) (c .lapse .ensures)
+returns c = law.ticked _ (stateIn _ _ _ _ _) _ _ _ _ (c .before .before .before .before .before .before .before .before .before .before .before .before .before .wrapping-add-u32 .ensures ∙ rw (c .before .before .before .before .before .before .before .before .before .before .before .before .before .before .before .time-in .ensures)) (c .before .before .before .before .before .before .before .before .before .before .before .before .put-time .ensures) (c .before .before .before .before .before .before .charge .ensures) (c .lapse .ensures)
 
 pub tick-spec : {M : Type 1} → statement M
 tick-spec =

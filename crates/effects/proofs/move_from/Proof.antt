@@ -1,4 +1,4 @@
--- `effects::move_from` meets its contract: queue by queue, then the record.
+-- `effects::move_from` meets its contract: the record, then queue by queue.
 use borrow.Author.Needs.{needs}
 use Rattle.effects.proofs.move_from.Statement.{statement}
 use Rattle.effects.proofs.move_from.Tie as tie
@@ -6,14 +6,14 @@ use Rattle.effects.proofs.move_from.Tie as tie
 returns : tie.Need-returns
 returns c =
     rw (
-      c .put-record .ensures,
-      c .before .before .before .settled .ensures,
-      c .before .before .before .before .before .before .before .before .relist-levels .ensures,
-      c .before .before .before .before .relist-waits .ensures,
+      c .before .before .before .before .put-record .ensures,
+      c .before .before .before .before .before .before .before .settled .ensures,
+      c .before .before .relist-levels .ensures,
+      c .relist-waits .ensures,
       c .before .before .before .before .before .before .before .before .before .before .before .level-of .ensures,
       c .before .before .before .before .before .before .before .before .before .before .level-of2 .ensures,
-      c .before .before .before .before .before .before .row-of .ensures,
-      c .before .before .before .before .before .row-of2 .ensures,
+      c .before .before .before .before .before .before .before .before .before .row-of .ensures,
+      c .before .before .before .before .before .before .before .before .row-of2 .ensures,
     )
 
 pub move-from-spec : {M : Type 1} → statement M
@@ -22,14 +22,14 @@ move-from-spec =
     (tie.spec
     (λ c κs. search needs)
     (λ c κs. search needs)
-    (λ c. search needs)
-    (λ c. search needs)
+    (λ c κs. search needs)
+    (λ c κs. search needs)
     (λ c κs. search needs)
     (λ c κs. search needs)
     (λ c. search needs)
-    (λ c κs. search needs)
     (λ c. search needs)
     (λ c κs. search needs)
-    (λ c κs. search needs)
+    (λ c. search needs)
+    (λ c. search needs)
     (λ c κs. search needs)
     returns)
