@@ -1,6 +1,6 @@
 -- Each effect on a state, from what its parts say of it: one law for each arm of `carry`, and those of a stop.
 -- They rest on the definitions of model/specs/Effect alone.
-use mathlib.Core.Path.{_≡_, ap, _∙_}
+use mathlib.Core.Path.{_≡_, _∙_}
 use mathlib.Core.List.{List}
 use Prim.Native.Nat.{ℕ, _+_, _%_, _^_}
 use lib.ListN.{set}

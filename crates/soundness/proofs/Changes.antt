@@ -1,13 +1,13 @@
 -- Each change of model/specs/State keeps a sound state sound: a task moved, a semaphore counted, a flag set, the time; Charging has the charges and slices.
 -- It rests on the tables' laws in Listed and on Orderly for the levels; what a change asks for is a condition on the numbers it stores.
-use mathlib.Core.Path.{_≡_, refl, sym, ap, _∙_, subst}
+use mathlib.Core.Path.{_≡_, refl, sym, ap, _∙_}
 use mathlib.Core.List.{List}
-use mathlib.Core.Logic.{_⊎_, inl, inr, ⊎-elim}
+use mathlib.Core.Logic.{_⊎_, inl, inr}
 use mathlib.Core.Bool.{false}
 use Prim.Native.Nat.{ℕ, _+_, _≤_, _<_}
 use native.Mathlib.Omega.{arith}
 use lib.Dec.{T as So}
-use lib.ListN.{length, getD, set, length-set, List·getD-eq-default}
+use lib.ListN.{length, getD, set, length-set}
 use lib.Seq.{getD-set-same, getD-set-other, set-out}
 use Rattle.model.specs.declared.Task.{Task}
 use Rattle.model.specs.declared.Numbers.{Numbers}
@@ -15,7 +15,7 @@ use Rattle.model.specs.declared.State.{State}
 use Rattle.model.specs.Flag.{isFlagAttributes, isSingle, isMet}
 use Rattle.model.specs.Task.{noTask, levelOf, rowOf, settled}
 use Rattle.model.specs.State.{task, count, maximum, attribute, bitsOf, moved, counted, flagged, withTime}
-use Rattle.model.specs.Sound.{SoundTask, SoundSlices, SoundCharge, SoundSemaphores, SoundFlags, Sound}
+use Rattle.model.specs.Sound.{SoundTask, SoundSlices, SoundCharge, at, SoundSemaphores, SoundFlags, Sound}
 use Rattle.laws.proofs.Number.{same?, below?}
 use Rattle.laws.proofs.Record.{level-none, level-charge, sound-charge}
 use Rattle.soundness.proofs.Listed.{lists-relisted}
@@ -43,6 +43,17 @@ pub record MayWait (s : State) (t : ℕ) (x : Task) : Type 0 where
   pub waited : (m : ℕ) → 1 ≤ m → m ≤ 12 → rowOf x ≡ m → (count s m ≡ 0) × (1 ≤ maximum s m)
   pub unmet : (f : ℕ) → 1 ≤ f → f ≤ 8 → rowOf x ≡ f + 12 → (1 ≤ attribute s f) × (isMet (x .wait .pattern) (x .wait .mode) (bitsOf s f) ≡ false)
   pub single : (f u : ℕ) → 1 ≤ f → f ≤ 8 → So (isSingle (attribute s f)) → rowOf x ≡ f + 12 → rowOf (task s u) ≡ f + 12 → u ≡ t
+
+-- the same numbers beside other records, whose waits they fit
+module _ {xs ys : List Task} where
+  pub semaphores-of : {ns vs : List ℕ} → SoundSemaphores xs ns vs
+      → ((m t : ℕ) → 1 ≤ m → m ≤ 12 → rowOf (getD ys t noTask) ≡ m → (at ns m ≡ 0) × (1 ≤ at vs m)) → SoundSemaphores ys ns vs
+  semaphores-of a waited = record { counts# = a .counts#; maxima# = a .maxima#; unused = a .unused; counts = a .counts; maxima = a .maxima; waited = waited }
+
+  pub flags-of : {es bs : List ℕ} → SoundFlags xs es bs
+      → ((f t : ℕ) → 1 ≤ f → f ≤ 8 → rowOf (getD ys t noTask) ≡ f + 12 → (1 ≤ at es f) × (isMet (getD ys t noTask .wait .pattern) (getD ys t noTask .wait .mode) (at bs f) ≡ false))
+      → ((f t u : ℕ) → 1 ≤ f → f ≤ 8 → So (isSingle (at es f)) → rowOf (getD ys t noTask) ≡ f + 12 → rowOf (getD ys u noTask) ≡ f + 12 → t ≡ u) → SoundFlags ys es bs
+  flags-of b unmet single = record { attributes# = b .attributes#; bits# = b .bits#; unused = b .unused; attributes = b .attributes; bits = b .bits; unmet = unmet; single = single }
 
 module _ (s : State) (k : Sound s) (t : ℕ) (x : Task) (some : 1 ≤ t) (top : t ≤ 24) where
   order : Orderly s
@@ -73,32 +84,13 @@ module _ (s : State) (k : Sound s) (t : ℕ) (x : Task) (some : 1 ≤ t) (top : 
           (λ u. rowOf (task (moved t x s) u)) (ap rowOf (task-now s order t x some top)) (λ u other. ap rowOf (task-else s order t x some top u other));
       slices = k .slices;
       charges = after .charges;
-      semaphores = record {
-        counts# = a .counts#;
-        maxima# = a .maxima#;
-        unused = a .unused;
-        counts = a .counts;
-        maxima = a .maxima;
-        waited = λ m u low top. cases (λ y. rowOf y ≡ m → (count s m ≡ 0) × (1 ≤ maximum s m)) u (λ e. may .waited m low top) (λ other. a .waited m u low top);
-      };
-      flags = record {
-        attributes# = b .attributes#;
-        bits# = b .bits#;
-        unused = b .unused;
-        attributes = b .attributes;
-        bits = b .bits;
-        unmet = λ f u low top. cases (λ y. rowOf y ≡ f + 12 → (1 ≤ attribute s f) × (isMet (y .wait .pattern) (y .wait .mode) (bitsOf s f) ≡ false)) u (λ e. may .unmet f low top) (λ other. b .unmet f u low top);
-        single = λ f u v low top one. cases (λ y. rowOf y ≡ f + 12 → rowOf (task (moved t x s) v) ≡ f + 12 → u ≡ v) u
-            (λ e here. cases (λ y. rowOf y ≡ f + 12 → u ≡ v) v (λ z _. e ∙ sym z) (λ _ there. e ∙ sym (may .single f v low top one here there)))
-            (λ other there. cases (λ y. rowOf y ≡ f + 12 → u ≡ v) v (λ z here. may .single f u low top one here there ∙ sym z) (λ _ here. b .single f u v low top one there here));
-      };
+      semaphores = semaphores-of (k .semaphores) (λ m u low top. cases (λ y. rowOf y ≡ m → (count s m ≡ 0) × (1 ≤ maximum s m)) u (λ e. may .waited m low top) (λ other. k .semaphores .waited m u low top));
+      flags = flags-of (k .flags)
+          (λ f u low top. cases (λ y. rowOf y ≡ f + 12 → (1 ≤ attribute s f) × (isMet (y .wait .pattern) (y .wait .mode) (bitsOf s f) ≡ false)) u (λ e. may .unmet f low top) (λ other. k .flags .unmet f u low top))
+          (λ f u v low top one. cases (λ y. rowOf y ≡ f + 12 → rowOf (task (moved t x s) v) ≡ f + 12 → u ≡ v) u
+          (λ e here. cases (λ y. rowOf y ≡ f + 12 → u ≡ v) v (λ z _. e ∙ sym z) (λ _ there. e ∙ sym (may .single f v low top one here there)))
+          (λ other there. cases (λ y. rowOf y ≡ f + 12 → u ≡ v) v (λ z here. may .single f u low top one here there ∙ sym z) (λ _ here. k .flags .single f u v low top one there here)));
     }
-      where
-        a : SoundSemaphores (s .tasks) (s .numbers .counts) (s .numbers .maxima)
-        a = k .semaphores
-
-        b : SoundFlags (s .tasks) (s .numbers .attributes) (s .numbers .bits)
-        b = k .flags
 
 -- ---- other numbers, which are sound by themselves
 pub renumbered : (s : State) (n : Numbers) → Sound s → SoundSlices (n .slices) → ((t : ℕ) → SoundCharge (s .levels) (n .slices) t (task s t)) → SoundSemaphores (s .tasks) (n .counts) (n .maxima)

@@ -15,13 +15,13 @@ use Rattle.model.specs.declared.State.{State}
 use Rattle.model.specs.Row.{firstOf}
 use Rattle.model.specs.Task.{noTask, levelOf, rowOf, withCharge}
 use Rattle.model.specs.State.{task, slice, sliced, recharged, rotated}
-use Rattle.model.specs.Sound.{SoundSlices, SoundCharge, SoundSemaphores, SoundFlags, Sound}
+use Rattle.model.specs.Sound.{SoundSlices, SoundCharge, Sound}
 use Rattle.laws.proofs.Number.{same?, below?}
 use Rattle.laws.proofs.Record.{level-none, level-charge, row-charge, sound-charge}
 use Rattle.soundness.proofs.Listed.{lists-same, lists-turned}
 use Rattle.soundness.proofs.Charges.{charge-none, charge-turned}
 use Rattle.soundness.proofs.Orderly.{sound-orderly, no-task}
-use Rattle.soundness.proofs.Changes.{stored, renumbered}
+use Rattle.soundness.proofs.Changes.{stored, semaphores-of, flags-of, renumbered}
 
 -- ---- charges
 -- the same records with other charges, which are sound by themselves
@@ -42,30 +42,11 @@ module _ (s : State) (k : Sound s) (xs : List Task) (n : ℕ → ℕ) (long : le
     waits = lists-same (s .waits) 21 (λ u. rowOf (task s u)) (λ u. rowOf (getD xs u noTask)) row (k .waits);
     slices = k .slices;
     charges = λ u. rw (at u) (fits u);
-    semaphores = record {
-      counts# = a .counts#;
-      maxima# = a .maxima#;
-      unused = a .unused;
-      counts = a .counts;
-      maxima = a .maxima;
-      waited = λ m u low top e. a .waited m u low top (sym (row u) ∙ e);
-    };
-    flags = record {
-      attributes# = b .attributes#;
-      bits# = b .bits#;
-      unused = b .unused;
-      attributes = b .attributes;
-      bits = b .bits;
-      unmet = λ f u low top e. rw (at u) (b .unmet f u low top (sym (row u) ∙ e));
-      single = λ f u v low top one d e. b .single f u v low top one (sym (row u) ∙ d) (sym (row v) ∙ e);
-    };
+    semaphores = semaphores-of (k .semaphores) (λ m u low top e. k .semaphores .waited m u low top (sym (row u) ∙ e));
+    flags = flags-of (k .flags)
+        (λ f u low top e. rw (at u) (k .flags .unmet f u low top (sym (row u) ∙ e)))
+        (λ f u v low top one d e. k .flags .single f u v low top one (sym (row u) ∙ d) (sym (row v) ∙ e));
   }
-    where
-      a : SoundSemaphores (s .tasks) (s .numbers .counts) (s .numbers .maxima)
-      a = k .semaphores
-
-      b : SoundFlags (s .tasks) (s .numbers .attributes) (s .numbers .bits)
-      b = k .flags
 
 -- task t has charge n: none, or as the first of its level one below the slice
 module _ (s : State) (k : Sound s) (t n : ℕ) (fits : SoundCharge (s .levels) (s .numbers .slices) t (withCharge (task s t) n)) where
