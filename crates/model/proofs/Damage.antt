@@ -124,6 +124,9 @@ damaged =
     ∷ flagged 3 0 1 sound ∷ flagged 3 3 0 sound ∷ flagged 3 5 0 sound
     -- the unused bytes hold 0, of a created task and of one that is not
     ∷ recorded 1 (with ofSpare 1 runner) ∷ recorded 2 (withUnused waiter 255) ∷ recorded 1 (withUnused runner 1) ∷ recorded 9 (with ofSpare 1 noTask) ∷ recorded 9 (withUnused noTask 1)
+    -- the last level, task, semaphore, flag and queue are looked at too
+    ∷ sliced 30 1001 sound ∷ levelled 30 0 1 ∷ recorded 24 (withPriority noTask 1) ∷ recharged 24 1 (moved 24 (dormant 8) sound) ∷ counted 12 8 7 sound ∷ flagged 8 0 1 sound ∷ flagged 8 1 0 (queued 20 0 2)
+    ∷ moved 24 (waiting (activated (dormant 9)) (onFlag 4 1 0 9)) (flagged 4 1 1 sound)
     -- the tables have their places, and each queue has its own
     ∷ tabled (0 ∷ []) ∷ shortened 5 ∷ narrowed 3
     -- place 0 of every table is unused
