@@ -17,18 +17,18 @@ use Rattle.model.specs.Flag
 use Rattle.model.specs.Task as Record
 use Rattle.model.specs.Task.{noTask, ofActive, ofCode, ofHanded, ofSpare, with, withWait, asleep, onSemaphore, onFlag, dormant, activated, waiting, withPriority, withSuspended, withWakeups, withActivations, withRemaining}
 use Rattle.model.specs.State
-use Rattle.model.specs.State.{fresh, task, moved, counted, flagged, sliced, recharged}
+use Rattle.model.specs.State.{fresh, task, moved, counted, flagged, sliced, marked, recharged}
 use Rattle.model.specs.Plan
 use Rattle.model.specs.Test
 use Rattle.model.specs.Call as Calls
 
 -- 1 runs at level 5, 2 waits on semaphore 3 (maximum 7) for 9 ticks, 4 sleeps, 6 is dormant, 7 waits for both bits 6 of flag 2 (SINGLE, bits 3),
--- 10 and 11 are the tasks of level 12; levels 5 and 12 have slice 4, and 1 and 10 charge 2
+-- 10 and 11 are the tasks of level 12; levels 5 and 12 have slice 4, and 1 and 10 charge 2; 1 and 2 have a time of entry
 pub sound : State
 sound =
-    recharged 10 2 (recharged 1 2 (sliced 12 4 (sliced 5 4 (flagged 2 2 3 (counted 3 0 7
+    marked 2 0 4294967295 (recharged 10 2 (marked 1 2 7 (sliced 12 4 (sliced 5 4 (flagged 2 2 3 (counted 3 0 7
     (moved 11 (activated (dormant 12)) (moved 10 (activated (dormant 12)) (moved 7 (waiting (activated (dormant 9)) (onFlag 2 6 1 9)) (moved 6 (dormant 8) (moved 4 (waiting (activated (dormant 30)) (asleep 4294967295))
-    (moved 2 (waiting (activated (dormant 5)) (onSemaphore 3 9)) (moved 1 (activated (dormant 5)) fresh))))))))))))
+    (moved 2 (waiting (activated (dormant 5)) (onSemaphore 3 9)) (moved 1 (activated (dormant 5)) fresh)))))))))))))
 
 -- the state with another record, or another number at a place of a queue, and nothing else changed
 recorded : ℕ → Task → State
@@ -107,6 +107,8 @@ damaged =
     -- only the first of a level has a charge, and it is below the slice; without a slice there is none, and none without a level
     ∷ recharged 1 4 sound ∷ recharged 10 4 sound ∷ recharged 11 1 sound ∷ recharged 11 2 (recharged 10 0 sound) ∷ recharged 1 1 (sliced 5 0 sound) ∷ recharged 1 4294967295 sound
     ∷ recharged 2 1 sound ∷ recharged 4 1 sound ∷ recharged 6 1 sound ∷ recharged 9 1 sound ∷ recharged 0 1 sound
+    -- a dormant task has no time of entry, nor one not created
+    ∷ marked 6 0 1 sound ∷ marked 6 0 4294967295 sound ∷ marked 9 0 1 sound ∷ marked 0 0 1 sound ∷ marked 24 0 1 (moved 24 (dormant 8) sound)
     -- a task waits for nothing, a sleep or a created semaphore
     ∷ recorded 2 (withObject waiter 3 3) ∷ recorded 4 (withObject sleeper 1 3) ∷ recorded 1 (withObject runner 0 3) ∷ counted 3 0 0 sound ∷ moved 2 (withObject waiter 2 4) sound ∷ moved 2 (withObject waiter 2 13) sound
     -- objects not created are all zeros; created ones have numbers in range
@@ -138,7 +140,7 @@ noneIsSound [] = true
 noneIsSound (s ∷ rest) = not (Test.isSound s) && noneIsSound rest
 
 pub tells : So (Test.isSound sound && noneIsSound damaged)
-unfolding sound damaged recorded levelled queued tabled shortened narrowed withCode withObject withActive withAsk withUnused noneIsSound State.moved State.counted State.flagged State.sliced State.recharged Row.place Row.gap Row.joined Row.left Row.row Row.withRow Row.leftRow Row.joinedRow Row.relisted Record.levelOf Record.rowOf Flag.isFlagAttributes Flag.isMet Flag.flagRow Test.below Test.everyRow Test.occ Test.zeros Test.listsOnly Test.isFiled Test.listsExactly Test.isTaskSound Test.isChargeSound Test.isCountSound Test.isFlagSound Test.isUnmet Test.isSound Plan.within
+unfolding sound damaged recorded levelled queued tabled shortened narrowed withCode withObject withActive withAsk withUnused noneIsSound State.moved State.counted State.flagged State.sliced State.marked Row.place Row.gap Row.joined Row.left Row.row Row.withRow Row.leftRow Row.joinedRow Row.relisted Record.levelOf Record.rowOf Flag.isFlagAttributes Flag.isMet Flag.flagRow Test.below Test.everyRow Test.occ Test.zeros Test.listsOnly Test.isFiled Test.listsExactly Test.isTaskSound Test.isChargeSound Test.isCountSound Test.isFlagSound Test.isUnmet Test.isSound Plan.within
 tells = tt
 
 -- any state that fails the test gets UNSOUND and task 0, and comes back as it was

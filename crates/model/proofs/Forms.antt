@@ -15,7 +15,7 @@ abbrev pub Same : Call → Call → Type 0
 Same i t = (s : State) → call s I i ≡ call s T t
 
 opened : ℕ
-unfolding Calls.call Calls.step Calls.planned Calls.plan Calls.flagPlan Services.isMine Services.service Services.services Services.tasks Services.system Services.semaphores Services.flags
+unfolding Calls.call Calls.step Calls.planned Calls.plan Calls.flagPlan Services.isMine Services.service Services.services Services.tasks Services.system Services.semaphores Services.flags Services.own
 opened = 0
 
 pub activates : (t : ℕ) → Same (TaskIactivate t) (TaskActivate t)

@@ -3,6 +3,7 @@ pub mod Table
 pub mod Flags
 pub mod Refusals
 pub mod Accepted
+pub mod Entries
 pub mod Forms
 pub mod Codes
 pub mod Damage

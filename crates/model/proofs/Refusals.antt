@@ -8,7 +8,7 @@ use lib.IntN.{ℤ}
 use lib.ListN.{length}
 use Rattle.model.specs.declared.Call.{Call}
 use Rattle.model.specs.declared.Call.the-variants.{TaskCreate, TaskDelete, TaskActivate, TaskIactivate, TaskExit, TaskTerminate, TaskSuspend, TaskResume, TaskSleep, TaskWakeup, TaskIwakeup, TaskReleaseWait, TaskIreleaseWait, TaskChangePriority}
-use Rattle.model.specs.declared.Call.the-variants.{SysTsliceTicks, TickIntProcessing, SemCreate, SemDelete, SemSignal, SemIsignal, SemAcquire, SemPolling, SemIpolling, OnFlag}
+use Rattle.model.specs.declared.Call.the-variants.{SysTsliceTicks, TickIntProcessing, SemCreate, SemDelete, SemSignal, SemIsignal, SemAcquire, SemPolling, SemIpolling, OnFlag, ReadyTicks}
 use Rattle.model.specs.declared.FlagService.the-variants.{Create, Delete, Set, Iset, Clear, Iclear, Wait, WaitPolling, Iwait}
 use Rattle.model.specs.Services.{services, serviceNumber}
 use Rattle.model.specs.Code.{minus}
@@ -173,6 +173,9 @@ rows =
     ∷ missing (OnFlag 8 (Iwait 4294967295 1) ∷ []) ∷ among 8 (λ f. OnFlag f (Iwait 1 0)))
     (each (minus 2) (T (OnFlag 3 (Iwait 1 0)) ∷ T (OnFlag 3 (Iwait 2 0)) ∷ T (OnFlag 2 (Iwait 1 0)) ∷ []) ∷ each (minus 8) (I (OnFlag 2 (Iwait 1 0)) ∷ I (OnFlag 2 (Iwait 4 0)) ∷ [])
     ∷ each (minus 4) (I (OnFlag 3 (Iwait 2 0)) ∷ I (OnFlag 3 (Iwait 7 1)) ∷ []) ∷ []) []
+    -- 33 ready_ticks: it is dormant
+    ∷ onTask (λ t. ReadyTicks t)
+    (each (minus 2) (I (ReadyTicks 7) ∷ I (ReadyTicks 3) ∷ I (ReadyTicks 2) ∷ T (ReadyTicks 2) ∷ []) ∷ [])
     ∷ []
 
 -- ---- the rows hold

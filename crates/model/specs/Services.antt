@@ -1,4 +1,4 @@
--- The table of services: each by its name in document 000, the context that it belongs to, what its numbers are, and the call that they
+-- The table of services: each by its name in document 000 or its own, the context that it belongs to, what its numbers are, and the call that they
 -- make. A service's number is its row, from 1 on. The border, the line reader and the context test read this table.
 use Prim.Native.Nat.{ℕ, zero, suc}
 use Prim.Native.String.{String}
@@ -9,7 +9,7 @@ use Rattle.model.specs.declared.Context.{Context}
 use Rattle.model.specs.declared.Context.the-variants.{T, I}
 use Rattle.model.specs.declared.Call.{Call}
 use Rattle.model.specs.declared.Call.the-variants.{TaskCreate, TaskDelete, TaskActivate, TaskIactivate, TaskExit, TaskTerminate, TaskSuspend, TaskResume, TaskSleep, TaskWakeup, TaskIwakeup, TaskReleaseWait, TaskIreleaseWait, TaskChangePriority}
-use Rattle.model.specs.declared.Call.the-variants.{SysTsliceTicks, TickIntProcessing, SemCreate, SemDelete, SemSignal, SemIsignal, SemAcquire, SemPolling, SemIpolling, OnFlag}
+use Rattle.model.specs.declared.Call.the-variants.{SysTsliceTicks, TickIntProcessing, SemCreate, SemDelete, SemSignal, SemIsignal, SemAcquire, SemPolling, SemIpolling, OnFlag, ReadyTicks}
 use Rattle.model.specs.declared.FlagService.{FlagService}
 use Rattle.model.specs.declared.FlagService.the-variants.{Create, Delete, Set, Iset, Clear, Iclear, Wait, WaitPolling, Iwait}
 
@@ -21,6 +21,8 @@ pub data Field : Type 0 where
 
 pub record Service : Type 0 where
   pub name : String
+  -- the name is in document 000, so a list may hold it
+  pub inLists : Bool
   pub context : Context
   -- what its numbers a, b, c and d are, as far as it takes them
   pub fields : List Field
@@ -28,7 +30,10 @@ pub record Service : Type 0 where
   pub call : ℕ → ℕ → ℕ → ℕ → Call
 
 abbrev aService : String → Context → List Field → (ℕ → ℕ → ℕ → ℕ → Call) → Service
-aService t c fs f = record { name = t; context = c; fields = fs; call = f }
+aService t c fs f = record { name = t; inLists = true; context = c; fields = fs; call = f }
+
+abbrev ownService : String → Context → List Field → (ℕ → ℕ → ℕ → ℕ → Call) → Service
+ownService t c fs f = record { name = t; inLists = false; context = c; fields = fs; call = f }
 
 -- those on tasks
 unfoldable pub tasks : List Service
@@ -82,11 +87,15 @@ flags =
     ∷ aService "tn_event_iwait" I (theFlag ∷ thePattern ∷ theMode ∷ []) (λ a b c d. OnFlag a (Iwait b c))
     ∷ []
 
+-- those that document 000 does not have: a call of the library, in no list
+unfoldable pub own : List Service
+own = ownService "ready_ticks" T (theTask ∷ []) (λ a b c d. ReadyTicks a) ∷ []
+
 unfoldable pub services : List Service
-services = tasks ++ (system ++ (semaphores ++ flags))
+services = tasks ++ (system ++ (semaphores ++ (flags ++ own)))
 
 abbrev none : Service
-none = aService "" I [] (λ a b c d. TickIntProcessing)
+none = ownService "" I [] (λ a b c d. TickIntProcessing)
 
 -- by its number, from 1 on; a number that names no service stands for the tick
 unfoldable pub service : ℕ → Service
@@ -130,6 +139,7 @@ serviceNumber (SemAcquire m d) = 21
 serviceNumber (SemPolling m) = 22
 serviceNumber (SemIpolling m) = 23
 serviceNumber (OnFlag f e) = flagServiceNumber e
+serviceNumber (ReadyTicks t) = 33
 
 -- ---- the context test: a call comes from the context that its service belongs to
 abbrev pub same : Context → Context → Bool
