@@ -49,7 +49,7 @@ WaitOf x = SoundWait (x .wait) (x .wakeups) (x .code) (x .handed)
 
 -- what a dormant one has
 abbrev pub Resting : Task → Type 0
-Resting x = (x .wait .kind ≡ nothing) × (x .suspended ≡ 0) × (x .wakeups ≡ 0) × (x .activations ≡ 0) × (x .code ≡ 0) × (x .handed ≡ 0) × (x .priority ≡ x .base)
+Resting x = (x .wait .kind ≡ nothing) × (x .suspended ≡ 0) × (x .wakeups ≡ 0) × (x .activations ≡ 0) × (x .code ≡ 0) × (x .handed ≡ 0) × (x .entered ≡ 0) × (x .priority ≡ x .base)
 
 module _ (x : Task) where
   pub wait-of : SoundTask x → WaitOf x

@@ -7,9 +7,9 @@ use Rattle.model.specs.declared.Task.{Task}
 use Rattle.model.specs.declared.State.{State}
 use Rattle.model.specs.declared.Effect.the-variants.{Moves}
 use Rattle.model.specs.Task.{aSleep, endless, asleep}
-use Rattle.model.specs.State.{task, running}
+use Rattle.model.specs.State.{task, time, running}
 use Rattle.model.specs.Plan.{does}
-use Rattle.model.specs.Service.{create, delete, activate, exit, terminate, suspend, resume, sleep, wakeup, releaseWait, wanted, changePriority, tsliceTicks, tick}
+use Rattle.model.specs.Service.{create, delete, activate, exit, terminate, suspend, resume, sleep, wakeup, releaseWait, wanted, changePriority, readyTicks, tsliceTicks, tick}
 use Rattle.laws.proofs.Says.{says-not, says-and}
 use Rattle.ways.specs.Kind as Kinds
 use Rattle.ways.specs.Kind.{other, forcedRelease, setSlice}
@@ -76,6 +76,10 @@ module _ (s : State) (mine : Bool) where
   unfolding changePriority
   way-changePriority t p = checks (says-and (in-range 1 t 24) (at-most p 30)) (some-of (task s t .base)) mine _ (λ h made. needs (some-of (task s t .active)) _ _ tt (λ live.
       picks (equals (wanted p (task s t)) (task s t .priority)) _ _ (λ _. done 0 keeps) (λ _. changes t (h .0) (prioritises p (h .1) made live))))
+
+  pub way-readyTicks : (t : ℕ) → Way s other Entries.none (readyTicks mine t (time s) (task s t))
+  unfolding readyTicks
+  way-readyTicks t = checks (in-range 1 t 24) (some-of (task s t .base)) mine _ (λ _ _. needs (some-of (task s t .active)) _ _ tt (λ _. done _ keeps))
 
   -- ---- slices and the tick
   pub way-tsliceTicks : (l v : ℕ) → Way s (setSlice l) Entries.none (tsliceTicks mine l v)

@@ -3,7 +3,7 @@
 use Prim.Native.Nat.{ℕ}
 use Rattle.model.specs.declared.Call.{Call}
 use Rattle.model.specs.declared.Call.the-variants.{TaskCreate, TaskDelete, TaskActivate, TaskIactivate, TaskExit, TaskTerminate, TaskSuspend, TaskResume, TaskSleep, TaskWakeup, TaskIwakeup, TaskReleaseWait, TaskIreleaseWait, TaskChangePriority}
-use Rattle.model.specs.declared.Call.the-variants.{SysTsliceTicks, TickIntProcessing, SemCreate, SemDelete, SemSignal, SemIsignal, SemAcquire, SemPolling, SemIpolling, OnFlag}
+use Rattle.model.specs.declared.Call.the-variants.{SysTsliceTicks, TickIntProcessing, SemCreate, SemDelete, SemSignal, SemIsignal, SemAcquire, SemPolling, SemIpolling, OnFlag, ReadyTicks}
 
 pub data Entry : Type 0 where
   creation : ℕ → ℕ → Entry  -- of a semaphore, with its start value
@@ -35,3 +35,4 @@ entry (SemAcquire m d) = acquisition m
 entry (SemPolling m) = poll m
 entry (SemIpolling m) = poll m
 entry (OnFlag f e) = none
+entry (ReadyTicks t) = none
