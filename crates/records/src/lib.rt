@@ -1,11 +1,11 @@
 // One task's record: which queues list it, the records that calls make of it, and how its last wait ended.
 // Each function is a definition of model/specs/Task, for every value; it rests on model and, for a sign, on a law of laws.
 ghost use mathlib.Core.Path.{_≡_};
-ghost use mathlib.Core.Bool.{cond};
+ghost use mathlib.Core.Bool.{cond, not, _&&_};
 ghost use lib.Dec.{eqb};
 ghost use Rattle.model.specs.Code.{waitNumber};
 ghost use Rattle.model.specs.Flag.{isMet, flagRow};
-ghost use Rattle.model.specs.Task.{noWait, asleep, onSemaphore, onFlag, noTask, levelOf, rowOf, dormant, activated, created, withPriority, withSuspended, withWakeups, withActivations, withCharge, waiting, ended, told};
+ghost use Rattle.model.specs.Task.{noWait, asleep, onSemaphore, onFlag, noTask, levelOf, rowOf, dormant, activated, created, withPriority, withSuspended, withWakeups, withActivations, withMarks, waiting, ended, told};
 use model::News;
 use model::Task;
 use model::Wait;
@@ -147,6 +147,7 @@ pub fn dormant(p: u8) -> Task
         wait: none,
         handed: 0,
         charge: 0,
+        entered: 0,
     }
 }
 
@@ -205,9 +206,9 @@ pub fn with_activations(x: Task, n: u8) -> Task
     r
 }
 
-// Record x in place of record k, where level `from` lists k and level `to` lists x: this is `settled k x`, for a caller that knows both levels.
-pub fn settled(k: Task, x: Task, from: u8, to: u8) -> Task
-    ensures { λ r. ⌜ r ≡ withCharge x (cond (eqb from to) (k .charge) 0) ⌝ }
+// Record x in place of record k, where level `from` lists k and level `to` lists x: this is `settled time k x`, for a caller that knows both levels.
+pub fn settled(k: Task, x: Task, from: u8, to: u8, time: u32) -> Task
+    ensures { λ r. ⌜ r ≡ withMarks x (cond (eqb from to) (k .charge) 0) (cond (not (eqb to 0) && not (eqb from to)) time (x .entered)) ⌝ }
 {
     let mut r = x;
     if from == to {
@@ -215,6 +216,10 @@ pub fn settled(k: Task, x: Task, from: u8, to: u8) -> Task
         return r;
     }
     r.charge = 0;
+    if to == 0 {
+        return r;
+    }
+    r.entered = time;
     r
 }
 
