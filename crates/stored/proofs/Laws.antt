@@ -9,9 +9,9 @@ use native.Mathlib.Numerals.{add-one}
 use native.Mathlib.Omega.{arith}
 use native.Mathlib.Decide.{ℕ-discrete}
 use lib.ListN.{getD, set, length, take, length-set, List·getD-eq-default}
-use lib.Seq.{getD-set-same, getD-set-other, ext-getD, take-suc, take-suc-set, take-all}
+use lib.Seq.{getD-set-same, getD-set-other, ext-getD, take-suc, take-suc-set, take-all, set-set}
 use Rattle.model.specs.declared.Task.{Task}
-use Rattle.model.specs.Task.{noTask, withRemaining, withCharge}
+use Rattle.model.specs.Task.{noTask, withRemaining, withMarks}
 use Rattle.stored.specs.Stored.{recordAt, recordsFrom, tasksOf, withOwn, withWaits, wordsWith}
 
 -- ---- a record is read
@@ -65,12 +65,12 @@ stores-same p i (v ∷ vs) l c (suc k) h g =
     ap (λ (n : ℕ). getD (stores p (set l (p c) v) (suc c) vs) (p n) 0) (omega arith)
     ∙ stores-same p i vs (set l (p c) v) (suc c) k (λ d f. rw length-set (h d (omega arith))) (omega arith)
 
--- a record's twelve bytes and four words, as the tables hold them, and the places where they stand
+-- a record's twelve bytes and five words, as the tables hold them, and the places where they stand
 abbrev bytesOf : Task → List ℕ
 bytesOf x = x .base ∷ x .priority ∷ x .active ∷ x .suspended ∷ x .wakeups ∷ x .activations ∷ x .code ∷ x .spare ∷ x .wait .kind ∷ x .wait .object ∷ x .wait .mode ∷ x .wait .spare ∷ []
 
 abbrev wordsOf : Task → List ℕ
-wordsOf x = x .wait .remaining ∷ x .wait .pattern ∷ x .handed ∷ x .charge ∷ []
+wordsOf x = x .wait .remaining ∷ x .wait .pattern ∷ x .handed ∷ x .charge ∷ x .entered ∷ []
 
 abbrev byteOf : ℕ → ℕ → ℕ
 byteOf t c = t * 12 + c
@@ -84,7 +84,7 @@ bytes-stores b t x = ap (λ (k : ℕ). stores (byteOf t) (set b k (x .base)) 1 (
 
 words-stores : (w : List ℕ) (t : ℕ) (x : Task) → wordsWith w t x ≡ stores (wordOf t) w 0 (wordsOf x)
 unfolding stores
-words-stores w t x = ap (λ (k : ℕ). stores (wordOf t) (set w k (x .wait .remaining)) 1 (x .wait .pattern ∷ x .handed ∷ x .charge ∷ [])) (sym (add-zero t))
+words-stores w t x = ap (λ (k : ℕ). stores (wordOf t) (set w k (x .wait .remaining)) 1 (x .wait .pattern ∷ x .handed ∷ x .charge ∷ x .entered ∷ [])) (sym (add-zero t))
 
 -- ---- a record by its places
 byte-at : (b w : List ℕ) (t c : ℕ) → c < 12 → getD b (byteOf t c) 0 ≡ getD (bytesOf (recordAt b w t)) c 0
@@ -102,14 +102,15 @@ byte-at b w t (suc (suc (suc (suc (suc (suc (suc (suc (suc (suc zero)))))))))) h
 byte-at b w t (suc (suc (suc (suc (suc (suc (suc (suc (suc (suc (suc zero))))))))))) h = refl
 byte-at b w t (suc (suc (suc (suc (suc (suc (suc (suc (suc (suc (suc (suc c)))))))))))) h = absurd (omega arith)
 
-word-at : (b w : List ℕ) (t c : ℕ) → c < 4 → getD w (wordOf t c) 0 ≡ getD (wordsOf (recordAt b w t)) c 0
+word-at : (b w : List ℕ) (t c : ℕ) → c < 5 → getD w (wordOf t c) 0 ≡ getD (wordsOf (recordAt b w t)) c 0
 word-at b w t zero h = rw add-zero
 word-at b w t (suc zero) h = refl
 word-at b w t (suc (suc zero)) h = refl
 word-at b w t (suc (suc (suc zero))) h = refl
-word-at b w t (suc (suc (suc (suc c)))) h = absurd (omega arith)
+word-at b w t (suc (suc (suc (suc zero)))) h = refl
+word-at b w t (suc (suc (suc (suc (suc c))))) h = absurd (omega arith)
 
-by-places : (b w : List ℕ) (t : ℕ) (x : Task) → ((c : ℕ) → c < 12 → getD b (byteOf t c) 0 ≡ getD (bytesOf x) c 0) → ((c : ℕ) → c < 4 → getD w (wordOf t c) 0 ≡ getD (wordsOf x) c 0)
+by-places : (b w : List ℕ) (t : ℕ) (x : Task) → ((c : ℕ) → c < 12 → getD b (byteOf t c) 0 ≡ getD (bytesOf x) c 0) → ((c : ℕ) → c < 5 → getD w (wordOf t c) 0 ≡ getD (wordsOf x) c 0)
     → recordAt b w t ≡ x
 by-places b w t x p q =
     let p₀ : getD b (t * 12) 0 ≡ x .base = rw add-zero at (p 0 (omega arith)) in
@@ -133,6 +134,7 @@ by-places b w t x p q =
       };
       handed = q 2 (omega arith) k;
       charge = q 3 (omega arith) k;
+      entered = q 4 (omega arith) k;
     }
 
 -- tables in which task t has record x and each other task the one that it had
@@ -144,7 +146,7 @@ replaced b w b′ w′ t x h e f = all-read b′ w′ (set (tasksOf b w) t x) (l
     go i g (no a) = f i g a ∙ sym (getD-set-other (tasksOf b w) t i x noTask a ∙ read b w i g)
 
 -- ---- a record is stored
-pub wrote : (b w : List ℕ) (t : ℕ) (x : Task) → length b ≡ 300 → length w ≡ 100 → t < 25 → tasksOf (withWaits (withOwn b (t * 12) x) (t * 12) x) (wordsWith w t x) ≡ set (tasksOf b w) t x
+pub wrote : (b w : List ℕ) (t : ℕ) (x : Task) → length b ≡ 300 → length w ≡ 125 → t < 25 → tasksOf (withWaits (withOwn b (t * 12) x) (t * 12) x) (wordsWith w t x) ≡ set (tasksOf b w) t x
 wrote b w t x m n h = rw (bytes-stores b t x, words-stores w t x) (replaced b w b′ w′ t x h here there)
   where
     b′ : List ℕ
@@ -167,7 +169,7 @@ wrote b w t x m n h = rw (bytes-stores b t x, words-stores w t x) (replaced b w 
 
 -- ---- one word is stored
 -- word c of task t becomes v, and x is the record that says so
-changed : (b w : List ℕ) (t c v : ℕ) (x : Task) → t < 25 → c < 4 → length w ≡ 100 → bytesOf x ≡ bytesOf (recordAt b w t) → wordsOf x ≡ set (wordsOf (recordAt b w t)) c v
+changed : (b w : List ℕ) (t c v : ℕ) (x : Task) → t < 25 → c < 5 → length w ≡ 125 → bytesOf x ≡ bytesOf (recordAt b w t) → wordsOf x ≡ set (wordsOf (recordAt b w t)) c v
     → tasksOf b (set w (wordOf t c) v) ≡ set (tasksOf b w) t x
 changed b w t c v x h r n p q = replaced b w b w′ t x h here there
   where
@@ -177,7 +179,7 @@ changed b w t c v x h r n p q = replaced b w b w′ t x h here there
     words : List ℕ
     words = wordsOf (recordAt b w t)
 
-    word-here : (d : ℕ) → d < 4 → Dec (d ≡ c) → getD w′ (wordOf t d) 0 ≡ getD (set words c v) d 0
+    word-here : (d : ℕ) → d < 5 → Dec (d ≡ c) → getD w′ (wordOf t d) 0 ≡ getD (set words c v) d 0
     word-here d g (yes a) = rw a (getD-set-same w (wordOf t c) v 0 (omega arith) ∙ sym (getD-set-same words c v 0 r))
     word-here d g (no a) = getD-set-other w (wordOf t c) (wordOf t d) v 0 (λ e. a (omega arith)) ∙ word-at b w t d g ∙ sym (getD-set-other words c d v 0 a)
 
@@ -196,12 +198,23 @@ changed b w t c v x h r n p q = replaced b w b w′ t x h here there
 pub left-at : (b w : List ℕ) (t : ℕ) → t < 25 → getD w t 0 ≡ getD (tasksOf b w) t noTask .wait .remaining
 left-at b w t h = ap (λ (x : Task). x .wait .remaining) (sym (read b w t h))
 
-pub fell : (b w : List ℕ) (t v : ℕ) → t < 25 → length w ≡ 100 → tasksOf b (set w t v) ≡ set (tasksOf b w) t (withRemaining (getD (tasksOf b w) t noTask) v)
+pub fell : (b w : List ℕ) (t v : ℕ) → t < 25 → length w ≡ 125 → tasksOf b (set w t v) ≡ set (tasksOf b w) t (withRemaining (getD (tasksOf b w) t noTask) v)
 fell b w t v h n = rw (read b w t h) (rw add-zero at (changed b w t 0 v (withRemaining (recordAt b w t) v) h (omega arith) n refl refl))
 
--- a charge
-pub recharges : (b w : List ℕ) (t v : ℕ) → t < 25 → length w ≡ 100 → tasksOf b (set w (t + 75) v) ≡ set (tasksOf b w) t (withCharge (getD (tasksOf b w) t noTask) v)
-recharges b w t v h n = rw (read b w t h) (changed b w t 3 v (withCharge (recordAt b w t) v) h (omega arith) n refl refl)
+-- a charge, and the time of entry with it
+module _ (b w : List ℕ) (t n : ℕ) (h : t < 25) (m : length w ≡ 125) where
+  pub recharges : tasksOf b (set w (t + 75) n) ≡ set (tasksOf b w) t (withMarks (getD (tasksOf b w) t noTask) n (getD (tasksOf b w) t noTask .entered))
+  recharges = rw (read b w t h) (changed b w t 3 n (withMarks (recordAt b w t) n (recordAt b w t .entered)) h (omega arith) m refl refl)
+
+  pub marks : (e : ℕ) → tasksOf b (set (set w (t + 75) n) (t + 100) e) ≡ set (tasksOf b w) t (withMarks (getD (tasksOf b w) t noTask) n e)
+  marks e =
+      let w′ : List ℕ = set w (t + 75) n in
+      let x : Task = getD (tasksOf b w) t noTask in
+      let y : Task = withMarks x n (x .entered) in
+      let same : recordAt b w′ t ≡ y = sym (read b w′ t h) ∙ ap (λ (l : List Task). getD l t noTask) recharges ∙ getD-set-same (tasksOf b w) t y noTask (omega (arith, length-tasks b w)) in
+      changed b w′ t 4 e (withMarks (recordAt b w′ t) (recordAt b w′ t .charge) e) h (omega arith) (length-set w (t + 75) n ∙ m) refl refl
+      ∙ ap (λ (z : Task). set (tasksOf b w′) t (withMarks z (z .charge) e)) same
+      ∙ rw recharges (set-set (tasksOf b w) t y (withMarks x n e))
 
 -- ---- a table of records is filled from another, one record more, until it is the other
 pub fills : (r l : List Task) (t : ℕ) (x : Task) → length r ≡ 25 → length l ≡ 25 → t < 25 → x ≡ getD l t noTask → take t r ≡ take t l → take (t + 1) (set r t x) ≡ take (t + 1) l
@@ -225,14 +238,14 @@ same-bytes b w b′ w′ m n e = ext-getD 0 b b′ (m ∙ sym n) (λ j h. go j (
         let r : c < 12 = mod-lt j (omega arith) in
         rw q at (byte-at b w t c r ∙ ap (λ (x : Task). getD (bytesOf x) c 0) (same-record b w b′ w′ e t (omega arith)) ∙ sym (byte-at b′ w′ t c r))
 
-pub same-words : (b w b′ w′ : List ℕ) → length w ≡ 100 → length w′ ≡ 100 → tasksOf b w ≡ tasksOf b′ w′ → w ≡ w′
+pub same-words : (b w b′ w′ : List ℕ) → length w ≡ 125 → length w′ ≡ 125 → tasksOf b w ≡ tasksOf b′ w′ → w ≡ w′
 same-words b w b′ w′ m n e = ext-getD 0 w w′ (m ∙ sym n) (λ j h. go j (omega arith))
   where
-    go : (j : ℕ) → j < 100 → getD w j 0 ≡ getD w′ j 0
+    go : (j : ℕ) → j < 125 → getD w j 0 ≡ getD w′ j 0
     go j h =
         let t : ℕ = j % 25 in
         let c : ℕ = j / 25 in
         let q : t + c * 25 ≡ j = omega (arith, div-add-mod' j 25) in
         let r : t < 25 = mod-lt j (omega arith) in
-        let k : c < 4 = omega arith in
+        let k : c < 5 = omega arith in
         rw q at (word-at b w t c k ∙ ap (λ (x : Task). getD (wordsOf x) c 0) (same-record b w b′ w′ e t r) ∙ sym (word-at b′ w′ t c k))

@@ -1,5 +1,5 @@
 -- The records of all tasks as two tables of plain numbers, which can be lent where a table of records can't: twelve bytes for
--- each task, task 0 first, and four words, all tasks' first words first. What the two tables say is the table of records.
+-- each task, task 0 first, and five words, all tasks' first words first. What the two tables say is the table of records.
 use mathlib.Core.List.{List, [], _∷_}
 use Prim.Native.Nat.{ℕ, zero, suc, _+_, _*_, _<_}
 use lib.ListN.{getD, set}
@@ -26,6 +26,7 @@ recordAt bytes words t = record {
   };
   handed = getD words (t + 50) 0;
   charge = getD words (t + 75) 0;
+  entered = getD words (t + 100) 0;
 }
 
 -- n records, from that of task t on
@@ -46,11 +47,11 @@ abbrev pub withWaits : List ℕ → ℕ → Task → List ℕ
 withWaits b i x = set (set (set (set (set (set b (i + 6) (x .code)) (i + 7) (x .spare)) (i + 8) (x .wait .kind)) (i + 9) (x .wait .object)) (i + 10) (x .wait .mode)) (i + 11) (x .wait .spare)
 
 abbrev pub wordsWith : List ℕ → ℕ → Task → List ℕ
-wordsWith w t x = set (set (set (set w t (x .wait .remaining)) (t + 25) (x .wait .pattern)) (t + 50) (x .handed)) (t + 75) (x .charge)
+wordsWith w t x = set (set (set (set (set w t (x .wait .remaining)) (t + 25) (x .wait .pattern)) (t + 50) (x .handed)) (t + 75) (x .charge)) (t + 100) (x .entered)
 
--- the places of a record are places of tables of n: its twelve bytes from place i on, and the four words of task t
+-- the places of a record are places of tables of n: its twelve bytes from place i on, and the five words of task t
 abbrev pub hasTwelve : ℕ → ℕ → Type 0
 hasTwelve i n = (i < n) × (i + 1 < n) × (i + 2 < n) × (i + 3 < n) × (i + 4 < n) × (i + 5 < n) × (i + 6 < n) × (i + 7 < n) × (i + 8 < n) × (i + 9 < n) × (i + 10 < n) × (i + 11 < n)
 
-abbrev pub hasFour : ℕ → ℕ → Type 0
-hasFour t n = (t < n) × (t + 25 < n) × (t + 50 < n) × (t + 75 < n)
+abbrev pub hasFive : ℕ → ℕ → Type 0
+hasFive t n = (t < n) × (t + 25 < n) × (t + 50 < n) × (t + 75 < n) × (t + 100 < n)

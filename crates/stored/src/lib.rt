@@ -1,17 +1,17 @@
-// The records of all tasks in two tables of plain numbers, twelve bytes for each and four words, read and changed where they lie.
+// The records of all tasks in two tables of plain numbers, twelve bytes for each and five words, read and changed where they lie.
 // A table of records can't be lent, these can. Each function is a definition of specs/Stored; it rests on the records.
 ghost use mathlib.Core.Path.{_≡_};
 ghost use Prim.Native.Nat.{_<_};
 ghost use lib.ListN.{getD, set, length};
-ghost use Rattle.model.specs.Task.{noTask, withRemaining, withCharge};
-ghost use Rattle.stored.specs.Stored.{recordAt, hasTwelve, hasFour, withOwn, withWaits, wordsWith, tasksOf};
+ghost use Rattle.model.specs.Task.{noTask, withRemaining, withMarks};
+ghost use Rattle.stored.specs.Stored.{recordAt, hasTwelve, hasFive, withOwn, withWaits, wordsWith, tasksOf};
 use model::Task;
 use model::Wait;
 
-// The two tables: twelve bytes for each task, task 0 first, and four words, all tasks' first words first.
+// The two tables: twelve bytes for each task, task 0 first, and five words, all tasks' first words first.
 pub type Bytes = [u8; 300];
 
-pub type Words = [u32; 100];
+pub type Words = [u32; 125];
 
 // The record of a task; a number that names none has zeros.
 pub fn record_at(bytes: &Bytes, words: &Words, t: usize) -> Task
@@ -49,6 +49,7 @@ fn record_in(bytes: &Bytes, words: &Words, t: usize) -> Task
         wait,
         handed: words[t + 50],
         charge: words[t + 75],
+        entered: words[t + 100],
     }
 }
 
@@ -95,16 +96,17 @@ fn put_wait(b: &mut [u8], i: usize, x: Task)
 
 // and the words.
 fn put_words(w: &mut [u32], t: usize, x: Task)
-    requires { ⌜ hasFour t (length (now w)) ⌝ }
+    requires { ⌜ hasFive t (length (now w)) ⌝ }
     ensures { λ r. ⌜ now (w .exit) ≡ wordsWith (now (w .entry)) t x ⌝ }
 {
     w[t] = x.wait.remaining;
     w[t + 25] = x.wait.pattern;
     w[t + 50] = x.handed;
     w[t + 75] = x.charge;
+    w[t + 100] = x.entered;
 }
 
-// ---- one word of a record is replaced, and nothing else of it. The bytes are there to say so: no byte is read.
+// ---- one word of a record is replaced, or its two marks, and nothing else of it. The bytes are there to say so: no byte is read.
 // What is left of a task's timeout,
 pub fn put_remaining(bytes: &Bytes, words: &mut Words, t: usize, left: u32)
     ensures { λ r. ⌜ tasksOf (now (bytes .entry)) (now (words .exit)) ≡ set (tasksOf (now (bytes .entry)) (now (words .entry))) t (withRemaining (getD (tasksOf (now (bytes .entry)) (now (words .entry))) t noTask) left) ⌝ }
@@ -116,15 +118,27 @@ pub fn put_remaining(bytes: &Bytes, words: &mut Words, t: usize, left: u32)
     w[t] = left;
 }
 
-// and its charge.
+// its charge,
 pub fn put_charge(bytes: &Bytes, words: &mut Words, t: usize, n: u32)
-    ensures { λ r. ⌜ tasksOf (now (bytes .entry)) (now (words .exit)) ≡ set (tasksOf (now (bytes .entry)) (now (words .entry))) t (withCharge (getD (tasksOf (now (bytes .entry)) (now (words .entry))) t noTask) n) ⌝ }
+    ensures { λ r. ⌜ tasksOf (now (bytes .entry)) (now (words .exit)) ≡ set (tasksOf (now (bytes .entry)) (now (words .entry))) t (withMarks (getD (tasksOf (now (bytes .entry)) (now (words .entry))) t noTask) n (getD (tasksOf (now (bytes .entry)) (now (words .entry))) t noTask .entered)) ⌝ }
 {
     if 24 < t {
         return;
     }
     let w: &mut [u32] = words;
     w[t + 75] = n;
+}
+
+// and its charge and the time at which it entered its level.
+pub fn put_marks(bytes: &Bytes, words: &mut Words, t: usize, n: u32, e: u32)
+    ensures { λ r. ⌜ tasksOf (now (bytes .entry)) (now (words .exit)) ≡ set (tasksOf (now (bytes .entry)) (now (words .entry))) t (withMarks (getD (tasksOf (now (bytes .entry)) (now (words .entry))) t noTask) n e) ⌝ }
+{
+    if 24 < t {
+        return;
+    }
+    let w: &mut [u32] = words;
+    w[t + 75] = n;
+    w[t + 100] = e;
 }
 
 // ---- a table of records goes into the two tables,

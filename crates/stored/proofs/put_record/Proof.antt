@@ -1,4 +1,4 @@
--- `stored::put_record` meets its contract: within the tables, and past them. That the tables have 300 and 100 places
+-- `stored::put_record` meets its contract: within the tables, and past them. That the tables have 300 and 125 places
 -- is learnt where they are lent as slices. Rests on Laws.
 use mathlib.Core.Path.{sym}
 use native.Mathlib.Omega.{arith}
