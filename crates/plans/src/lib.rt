@@ -26,6 +26,7 @@ use plans_task::life::create;
 use plans_task::life::delete;
 use plans_task::life::exit;
 use plans_task::life::terminate;
+use plans_task::ready::ready_ticks;
 use plans_task::turns::change_priority;
 use plans_task::turns::tick;
 use plans_task::turns::tslice_ticks;
@@ -257,6 +258,12 @@ pub fn plan_in(
             c,
             flag,
             service,
+        ),
+        Call::ReadyTicks { task } => ready_ticks(
+            mine_t,
+            task,
+            numbers::time_in(numbers),
+            record_at(bytes, words, task as usize),
         ),
     }
 }

@@ -1,6 +1,6 @@
 -- `plans::plan_in` meets its contract: call by call; the context of each service is the one that its row of the table has.
 use Rattle.model.specs.Call.{plan}
-use Rattle.model.specs.Services.{service, services, tasks, system, semaphores, flags, isMine}
+use Rattle.model.specs.Services.{service, services, tasks, system, semaphores, flags, own, isMine}
 use borrow.Author.Needs.{needs}
 use Rattle.plans.proofs.plan_in.Statement.{statement}
 use Rattle.plans.proofs.plan_in.Tie as tie
@@ -101,6 +101,10 @@ returns-24 : tie.Need-returns-24
 unfolding plan isMine service services tasks system semaphores flags
 returns-24 c = rw (c .flag-plan-in .ensures, c .before .before .a22 .given .1)
 
+returns-25 : tie.Need-returns-25
+unfolding plan isMine service services tasks system semaphores flags own
+returns-25 c = rw (c .ready-ticks .ensures, c .before .before .time-in .ensures, c .before .record-at15 .ensures, c .before .before .before .before .a23 .given .1, c .before .before .before .before .before .before .before .in-t .ensures)
+
 pub plan-in-spec : {M : Type 1} → statement M
 plan-in-spec =
     tie.close
@@ -191,6 +195,11 @@ plan-in-spec =
     (λ c κs. search needs)
     (λ c. search needs)
     (λ c κs. search needs)
+    (λ c. search needs)
+    (λ c κs. search needs)
+    (λ c. search needs)
+    (λ c κs. search needs)
+    (λ c κs. search needs)
     returns
     returns-2
     returns-3
@@ -214,4 +223,5 @@ plan-in-spec =
     returns-21
     returns-22
     returns-23
-    returns-24)
+    returns-24
+    returns-25)
