@@ -7,8 +7,11 @@ module _ (a b c d e f : Bool) where
   pub six : (((((a && b) && c) && d) && e) && f) ≡ (a && (b && (c && (d && (e && f)))))
   six = simp and-assoc
 
-  pub seven : (g : Bool) → ((((((a && b) && c) && d) && e) && f) && g) ≡ (a && (b && (c && (d && (e && (f && g))))))
-  seven g = simp and-assoc
+  pub eight : (g h : Bool) → (((((((a && b) && c) && d) && e) && f) && g) && h) ≡ (a && (b && (c && (d && (e && (f && (g && h)))))))
+  eight g h = simp and-assoc
 
   pub eleven : (g h i j k : Bool) → ((((((((((a && b) && c) && d) && e) && f) && g) && h) && i) && j) && k) ≡ (a && (b && (c && (d && (e && (f && (g && (h && (i && (j && k))))))))))
   eleven g h i j k = simp and-assoc
+
+  pub twelve : (g h i j k l : Bool) → (((((((((((a && b) && c) && d) && e) && f) && g) && h) && i) && j) && k) && l) ≡ (a && (b && (c && (d && (e && (f && (g && (h && (i && (j && (k && l)))))))))))
+  twelve g h i j k l = simp and-assoc

@@ -46,6 +46,7 @@ fn is_blank(x: Task) -> bool
         & no_wait
         & (x.handed == 0)
         & (x.charge == 0)
+        & (x.entered == 0)
 }
 
 fn is_wait_code(v: u8) -> bool
@@ -63,6 +64,7 @@ fn is_resting(x: Task) -> bool
         & (x.activations == 0)
         & (x.code == 0)
         & (x.handed == 0)
+        & (x.entered == 0)
         & (x.priority == x.base)
 }
 
