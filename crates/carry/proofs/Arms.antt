@@ -14,8 +14,8 @@ use Rattle.model.specs.declared.Effect.{Effect}
 use Rattle.model.specs.declared.Effect.the-variants.{Nothing, Moves, Stops, Counts, Deletes, Slices, Ticks, Flags, Tells}
 use Rattle.model.specs.Row.{firstOf}
 use Rattle.model.specs.Flag.{flagRow}
-use Rattle.model.specs.Task.{dormant, activated, withCharge}
-use Rattle.model.specs.State.{task, time, waiters, moved, movedFrom, counted, flagged, sliced, recharged, noted, ofSlices, ofCounts, ofMaxima, ofAttributes, ofBits, ofTime}
+use Rattle.model.specs.Task.{dormant, activated, withMarks}
+use Rattle.model.specs.State.{task, time, waiters, moved, movedFrom, counted, flagged, sliced, marked, noted, ofSlices, ofCounts, ofMaxima, ofAttributes, ofBits, ofTime}
 use Rattle.model.specs.Effect.{stopped, deleted, toldFlag, toldAll, charged, lapsed, tickedFrom, carriedFrom}
 
 -- a state with other numbers
@@ -55,9 +55,9 @@ module _ (run : ℕ) (e : Effect) (s : State) where
   unfolding counted
   counts m n v x y f a b = rw (f, b, a)
 
-  pub slices : (l v t : ℕ) (xs : List Task) (x : Numbers) → e ≡ Slices l v → t ≡ firstOf (s .levels) l → xs ≡ set (s .tasks) t (withCharge (task s t) 0) → x ≡ noted ofSlices l v (s .numbers)
+  pub slices : (l v t : ℕ) (xs : List Task) (x : Numbers) → e ≡ Slices l v → t ≡ firstOf (s .levels) l → xs ≡ set (s .tasks) t (withMarks (task s t) 0 (task s t .entered)) → x ≡ noted ofSlices l v (s .numbers)
       → record { tasks = xs; levels = s .levels; waits = s .waits; numbers = x } ≡ carriedFrom run s e
-  unfolding sliced recharged
+  unfolding sliced marked
   slices l v t xs x f d a b = rw (f, b, a, d)
 
   pub flags : (f a b : ℕ) (x y : Numbers) → e ≡ Flags f a b → x ≡ noted ofAttributes f a (s .numbers) → y ≡ noted ofBits f b x → with s y ≡ carriedFrom run s e

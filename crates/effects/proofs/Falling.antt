@@ -45,7 +45,7 @@ falls-to b w w′ ls ws ns t v h o d f =
     let p : (x .wait .remaining ≡ 1 → ⊥) = λ z. o (e ∙ z) in
     rw (falls-one x p, f, d, e) (moved-kept (stateIn b w ls ws ns) t (withRemaining x (fallen (x .wait .remaining))) refl refl refl)
 
-falls-at : (b w ls ws ns : List ℕ) (t : ℕ) → t < 25 → length w ≡ 100 → (getD w t 0 ≡ 1 → ⊥)
+falls-at : (b w ls ws ns : List ℕ) (t : ℕ) → t < 25 → length w ≡ 125 → (getD w t 0 ≡ 1 → ⊥)
     → moved t (aged (getD (tasksOf b w) t noTask)) (stateIn b w ls ws ns) ≡ stateIn b (set w t (fallen (getD w t 0))) ls ws ns
 falls-at b w ls ws ns t h m o = falls-to b w (set w t (fallen (getD w t 0))) ls ws ns t (fallen (getD w t 0)) h o refl (fell b w t (fallen (getD w t 0)) h m)
 
@@ -78,7 +78,7 @@ not-due n t w e = ⊎-elim
     (same? (getD w t 0) 1)
 
 -- where none ends, the words alone change
-pub all-fall : (n t : ℕ) (b w ls ws ns : List ℕ) → n + t ≤ 25 → length w ≡ 100 → isDue n t w ≡ false → stateIn b (fallAll n t w) ls ws ns ≡ lapsed n t (stateIn b w ls ws ns)
+pub all-fall : (n t : ℕ) (b w ls ws ns : List ℕ) → n + t ≤ 25 → length w ≡ 125 → isDue n t w ≡ false → stateIn b (fallAll n t w) ls ws ns ≡ lapsed n t (stateIn b w ls ws ns)
 unfolding fallAll lapsed
 all-fall zero t b w ls ws ns h m e = refl
 all-fall (suc n) t b w ls ws ns h m e =

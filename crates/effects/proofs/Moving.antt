@@ -1,6 +1,7 @@
 -- Moves of a state, and the loops made of them: a tick's timeouts, the news to those in a queue.
 -- Each law says what one turn of a loop leaves to do; they rest on the definitions alone.
 use mathlib.Core.Path.{_≡_, refl, ap, _∙_}
+use mathlib.Core.Bool.{and-false}
 use mathlib.Core.List.{List, _∷_}
 use Prim.Native.Nat.{ℕ, suc, _+_, _-_, _≤_, _<_}
 use native.Mathlib.Numerals.{add-one}
@@ -14,7 +15,7 @@ use Rattle.model.specs.declared.State.{State}
 use Rattle.model.specs.declared.News.{News}
 use Rattle.model.specs.Row.{relisted}
 use Rattle.model.specs.Task.{levelOf, rowOf, settled, aged, ended, told, ranOut, withRemaining, endless}
-use Rattle.model.specs.State.{moved, movedFrom, task}
+use Rattle.model.specs.State.{moved, movedFrom, task, time}
 use Rattle.model.specs.Effect.{lapsed, toldAll}
 
 -- ---- a move in the tables
@@ -22,9 +23,9 @@ kept : (ls : List Queue) (f g t : ℕ) → g ≡ f → relisted ls f g t ≡ ls
 unfolding relisted
 kept ls f g t e = rw (e, eq-eqb f f refl)
 
--- the level stays, and so does the charge
-settled-kept : (k x : Task) → levelOf x ≡ levelOf k → x .charge ≡ k .charge → settled k x ≡ x
-settled-kept k x e f = rw (e, eq-eqb (levelOf k) (levelOf k) refl, ← f)
+-- the level stays, and so do the marks
+settled-kept : (now : ℕ) (k x : Task) → levelOf x ≡ levelOf k → x .charge ≡ k .charge → settled now k x ≡ x
+settled-kept now k x e f = rw (e, eq-eqb (levelOf k) (levelOf k) refl, and-false, ← f)
 
 -- a record whose queues and charge stay the same
 pub moved-kept : (s : State) (t : ℕ) (x : Task) → levelOf x ≡ levelOf (task s t) → rowOf x ≡ rowOf (task s t) → x .charge ≡ task s t .charge
@@ -32,7 +33,7 @@ pub moved-kept : (s : State) (t : ℕ) (x : Task) → levelOf x ≡ levelOf (tas
 unfolding moved
 moved-kept s t x e f g =
     rw (kept (s .levels) (levelOf (task s t)) (levelOf x) t e, kept (s .waits) (rowOf (task s t)) (rowOf x) t f)
-    (ap (λ (y : Task). record { tasks = set (s .tasks) t y; levels = s .levels; waits = s .waits; numbers = s .numbers }) (settled-kept (task s t) x e g))
+    (ap (λ (y : Task). record { tasks = set (s .tasks) t y; levels = s .levels; waits = s .waits; numbers = s .numbers }) (settled-kept (time s) (task s t) x e g))
 
 -- k is the task's record
 pub moved-from : (s : State) (t : ℕ) (k x : Task) → k ≡ task s t → movedFrom t k x s ≡ moved t x s

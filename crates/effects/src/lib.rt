@@ -1,10 +1,14 @@
 // What an effect does to the five tables, changed where they lie: a move, a charged tick, the timeouts of a tick, the news to
 // those in a queue. Every contract says which state the tables then stand for.
 ghost use mathlib.Core.Path.{_≡_};
+ghost use mathlib.Core.Bool.{cond};
+ghost use lib.Dec.{eqb};
 ghost use lib.ListN.{length};
+ghost use Rattle.model.specs.Row.{secondOf};
 ghost use Rattle.model.specs.Task.{ranOut};
 ghost use Rattle.model.specs.State.{moved, movedFrom};
 ghost use Rattle.model.specs.Effect.{charged, lapsed, toldAll};
+ghost use Rattle.queues.specs.Queues.{queuesOf};
 ghost use Rattle.tables.specs.Lent.{before, after};
 ghost use Rattle.effects.specs.Falling.{fallen, isDue, fallAll};
 use model::News;
@@ -14,6 +18,7 @@ use queues::Levels;
 use queues::Waits;
 use queues::lent::relist_levels;
 use queues::lent::relist_waits;
+use queues::lent::second_of_level;
 use queues::lent::turn_level;
 use records::ENDLESS;
 use records::SERVED;
@@ -22,6 +27,7 @@ use records::TIMEOUT;
 use stored::Bytes;
 use stored::Words;
 use stored::put_charge;
+use stored::put_marks;
 use stored::put_record;
 use stored::put_remaining;
 use stored::record_at;
@@ -43,7 +49,8 @@ pub fn move_from(
     let to = records::level_of(x);
     let left = records::row_of(k);
     let joined = records::row_of(x);
-    let settled = records::settled(k, x, from, to);
+    let time = numbers::time_in(numbers);
+    let settled = records::settled(k, x, from, to, time);
     put_record(bytes, words, t as usize, settled);
     relist_levels(levels, from as usize, to as usize, t);
     relist_waits(waits, left as usize, joined as usize, t);
@@ -71,6 +78,17 @@ fn wide(x: u32) -> u64
     x as u64
 }
 
+// When the first of a level, which entered it at `entered`, has entered it once the level turns at `time`: a task alone there does not move.
+fn turned_at(levels: &Levels, level: usize, entered: u32, time: u32) -> u32
+    ensures { λ r. ⌜ r ≡ cond (eqb (secondOf (queuesOf 31 (now (levels .entry))) level) 0) entered time ⌝ }
+{
+    let second = second_of_level(levels, level);
+    if second == 0 {
+        return entered;
+    }
+    time
+}
+
 pub fn charge(
     bytes: &Bytes,
     words: &mut Words,
@@ -95,7 +113,8 @@ pub fn charge(
         put_charge(bytes, words, run as usize, next as u32);
         return;
     }
-    put_charge(bytes, words, run as usize, 0);
+    let entered = turned_at(levels, level, k.entered, numbers::time_in(numbers));
+    put_marks(bytes, words, run as usize, 0, entered);
     turn_level(levels, level);
 }
 
@@ -127,7 +146,7 @@ fn fallen(n: u32) -> u32
 
 // Whether any timeout ends with the next tick. A slice tells the prover its length, an array behind a reference does not.
 fn is_due(words: &Words) -> bool
-    ensures { λ r. ⌜ (r ≡ isDue 24 1 (now (words .entry))) × (length (now (words .entry)) ≡ 100) ⌝ }
+    ensures { λ r. ⌜ (r ≡ isDue 24 1 (now (words .entry))) × (length (now (words .entry)) ≡ 125) ⌝ }
 {
     let w: &[u32] = words;
     let mut due = false;

@@ -1,7 +1,7 @@
 // The levels and the waits as they are lent: read and changed where they lie, with contracts that speak of queues.
 // As a slice a table tells the prover its length, which the bridge in proofs/ asks for; each function rests on rows.
 ghost use mathlib.Core.Path.{_≡_};
-ghost use Rattle.model.specs.Row.{turned, row, firstOf, withRow, relisted, bestFrom};
+ghost use Rattle.model.specs.Row.{turned, row, firstOf, secondOf, withRow, relisted, bestFrom};
 ghost use Rattle.queues.specs.Queues.{queuesOf};
 use crate::Levels;
 use crate::Waits;
@@ -22,6 +22,17 @@ pub fn first_of_level(levels: &Levels, l: usize) -> u8
 {
     let ls: &[u8] = levels;
     rows::first_of(ls, l)
+}
+
+// The task that stands second in a level, or 0.
+pub fn second_of_level(levels: &Levels, l: usize) -> u8
+    ensures { λ r. ⌜ r ≡ secondOf (queuesOf 31 (now (levels .entry))) l ⌝ }
+{
+    let ls: &[u8] = levels;
+    if 30 < l {
+        return 0;
+    }
+    ls[l * 24 + 1]
 }
 
 // A task leaves level f and goes last in level g.

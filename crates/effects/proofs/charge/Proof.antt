@@ -23,10 +23,11 @@ returns-3 c =
 
 returns-4 : tie.Need-returns-4
 returns-4 c =
-    let d = c .before .before .before .before .before in
+    let e = c .before .before .before .before in
+    let d = e .before .before .before .before in
     let a = d .before .before .before in
-    law.full (stateIn _ _ _ _ _) _ (a .before .before .before .before .if1 .left) _ (a .before .before .record-at .ensures) _ (a .slice-at .ensures) (d .before .before .if2 .left) _ _
-    (rw (d .before .wide .ensures, d .wide2 .ensures) at (c .before .before .before .before .if3 .left)) (c .before .before .put-charge2 .ensures) (c .turn-level .ensures)
+    law.full (stateIn _ _ _ _ _) _ (a .before .before .before .before .if1 .left) _ (a .before .before .record-at .ensures) _ (a .slice-at .ensures) (d .before .before .if2 .left) _ _ _
+    (rw (d .before .wide .ensures, d .wide2 .ensures) at (e .before .before .before .if3 .left)) (rw (e .before .time-in .ensures) at (e .turned-at .ensures)) (c .before .before .put-marks .ensures) (c .turn-level .ensures)
 
 pub charge-spec : {M : Type 1} → statement M
 charge-spec =
@@ -43,6 +44,8 @@ charge-spec =
     (λ c. search needs)
     (λ c κs. search needs)
     returns-3
+    (λ c κs. search needs)
+    (λ c κs. search needs)
     (λ c κs. search needs)
     (λ c κs. search needs)
     returns-4)
