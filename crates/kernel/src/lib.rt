@@ -82,7 +82,7 @@ pub fn call(s: State, c: Context, a: Call) -> Answer
     ensures { λ r. ⌜ r ≡ call s c a ⌝ }
 {
     let mut bytes = [0u8; 300];
-    let mut words = [0u32; 100];
+    let mut words = [0u32; 125];
     let mut levels = [0u8; 744];
     let mut waits = [0u8; 504];
     let mut numbers = [0u32; 76];

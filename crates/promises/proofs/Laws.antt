@@ -98,7 +98,7 @@ abbrev Bytes : Lifetime → Lft → RefT (List ℕ) → List ℕ → Type 2
 Bytes = Lent u8 300
 
 abbrev Words : Lifetime → Lft → RefT (List ℕ) → List ℕ → Type 2
-Words = Lent u32 100
+Words = Lent u32 125
 
 abbrev Levels : Lifetime → Lft → RefT (List ℕ) → List ℕ → Type 2
 Levels = Lent u8 744
@@ -114,12 +114,12 @@ pub records : {ℓ ℓ₂ : Lifetime} {κ κ₂ : Lft} {x x₂ : RefT (List ℕ)
     → Bytes ℓ κ x b × (Words ℓ₂ κ₂ x₂ v × X) → Bytes ℓ κ x c × (Words ℓ₂ κ₂ x₂ w × Y) → tasksOf b v ≡ d → tasksOf c w ≡ d
     → _≡_ {A = Unit {0} × (List ℕ × (List ℕ × U))} (tt, (b, (v, u))) (tt, (c, (w, u)))
 records {b = b} {c = c} {v = v} {w = w} {u = u} i j p q k =
-    (tt, (same-bytes b v c w (long u8 300 (i .0)) (long u8 300 (j .0)) (p ∙ sym q) k, (same-words b v c w (long u32 100 (i .1 .0)) (long u32 100 (j .1 .0)) (p ∙ sym q) k, u)))
+    (tt, (same-bytes b v c w (long u8 300 (i .0)) (long u8 300 (j .0)) (p ∙ sym q) k, (same-words b v c w (long u32 125 (i .1 .0)) (long u32 125 (j .1 .0)) (p ∙ sym q) k, u)))
 
 -- the words alone, where the bytes are only read
 pub words : {ℓ : Lifetime} {κ : Lft} {x : RefT (List ℕ)} {W X Y Z : Type 2} {U : Type 0} {u : U} {v w : List ℕ} {d : List Task} (b : List ℕ)
     → W × (Words ℓ κ x v × X) → Y × (Words ℓ κ x w × Z) → tasksOf b v ≡ d → tasksOf b w ≡ d → _≡_ {A = Unit {0} × (Unit {0} × (List ℕ × U))} (tt, (tt, (v, u))) (tt, (tt, (w, u)))
-words {u = u} {v = v} {w = w} b i j p q k = (tt, (tt, (same-words b v b w (long u32 100 (i .1 .0)) (long u32 100 (j .1 .0)) (p ∙ sym q) k, u)))
+words {u = u} {v = v} {w = w} b i j p q k = (tt, (tt, (same-words b v b w (long u32 125 (i .1 .0)) (long u32 125 (j .1 .0)) (p ∙ sym q) k, u)))
 
 -- the numbers
 pub numbers : {ℓ : Lifetime} {κ : Lft} {x : RefT (List ℕ)} {X Y : Type 2} {U : Type 0} {u : U} {n m : List ℕ} {d : Numbers} → Numbered ℓ κ x n × X → Numbered ℓ κ x m × Y → heldIn n ≡ d → heldIn m ≡ d
@@ -142,7 +142,7 @@ five {b = b} {c = c} {v = v} {w = w} {l = l} {m = m} {q = q} {r = r} {n = n} {o 
     let ts : tasksOf b v ≡ tasksOf c w = ap (λ (y : State). y .tasks) z in
     λ k. off
     (same-bytes b v c w (long u8 300 (i .0)) (long u8 300 (j .0)) ts k)
-    (same-words b v c w (long u32 100 (i .1 .0)) (long u32 100 (j .1 .0)) ts k)
+    (same-words b v c w (long u32 125 (i .1 .0)) (long u32 125 (j .1 .0)) ts k)
     (same-queues 31 l m (long u8 744 (i .1 .1 .0)) (long u8 744 (j .1 .1 .0)) (ap (λ (y : State). y .levels) z) k)
     (same-queues 21 q r (long u8 504 (i .1 .1 .1 .0)) (long u8 504 (j .1 .1 .1 .0)) (ap (λ (y : State). y .waits) z) k)
     (same-numbers n o (long u32 76 (i .1 .1 .1 .1 .0)) (long u32 76 (j .1 .1 .1 .1 .0)) (ap (λ (y : State). y .numbers) z) k)
@@ -162,7 +162,7 @@ four {b = b} {c = c} {v = v} {w = w} {l = l} {m = m} {q = q} {r = r} {u = u} n i
       (
         same-bytes b v c w (long u8 300 (i .0)) (long u8 300 (j .0)) ts k,
         (
-          same-words b v c w (long u32 100 (i .1 .0)) (long u32 100 (j .1 .0)) ts k,
+          same-words b v c w (long u32 125 (i .1 .0)) (long u32 125 (j .1 .0)) ts k,
           (
             same-queues 31 l m (long u8 744 (i .1 .1 .0)) (long u8 744 (j .1 .1 .0)) (ap (λ (y : State). y .levels) z) k,
             (same-queues 21 q r (long u8 504 (i .1 .1 .1 .0)) (long u8 504 (j .1 .1 .1 .0)) (ap (λ (y : State). y .waits) z) k, (tt, u)),
@@ -183,7 +183,7 @@ charged {v = v} {w = w} {l = l} {m = m} {u = u} b q n i j e f =
       (
         tt,
         (
-          same-words b v b w (long u32 100 (i .1 .0)) (long u32 100 (j .1 .0)) (ap (λ (y : State). y .tasks) z) k,
+          same-words b v b w (long u32 125 (i .1 .0)) (long u32 125 (j .1 .0)) (ap (λ (y : State). y .tasks) z) k,
           (same-queues 31 l m (long u8 744 (i .1 .1 .0)) (long u8 744 (j .1 .1 .0)) (ap (λ (y : State). y .levels) z) k, (tt, (tt, u))),
         ),
       ),

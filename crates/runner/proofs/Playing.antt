@@ -41,7 +41,7 @@ pub record Left (wide : Bool) (file : List ℕ) (h : ℕ) (cs rs : List ℕ) (at
   pub total : size ≡ 16 + length (rowsText 1 rows)
 
 pub starts : (wide : Bool) (file : List ℕ) (h : ℕ) (codes runs : List ℕ) → 17 ≤ h → h ≤ length file → length codes ≡ 4096 → length runs ≡ 4096
-    → Left wide file h codes runs h 0 16 0 (stateIn (replicate 300 0) (replicate 100 0) (replicate 744 0) (replicate 504 0) (replicate 76 0))
+    → Left wide file h codes runs h 0 16 0 (stateIn (replicate 300 0) (replicate 125 0) (replicate 744 0) (replicate 504 0) (replicate 76 0))
 unfolding rowsText
 starts wide file h codes runs p q a b = record { rows = []; walk = walking.starts wide file h p q; short = omega arith; codes# = a; runs# = b; codes = refl; runs = refl; total = refl }
 

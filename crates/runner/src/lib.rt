@@ -47,7 +47,7 @@ fn play(file: &[u8], wide: bool, h: usize) -> Played
     let mut n: usize = 0;
     let mut total: usize = 16;
     let mut bytes = [0u8; 300];
-    let mut words = [0u32; 100];
+    let mut words = [0u32; 125];
     let mut levels = [0u8; 744];
     let mut waits = [0u8; 504];
     let mut numbers = [0u32; 76];

@@ -158,7 +158,7 @@ pub fn is_sound(s: State) -> bool
     ensures { λ r. ⌜ r ≡ isSound s ⌝ }
 {
     let mut bytes = [0u8; 300];
-    let mut words = [0u32; 100];
+    let mut words = [0u32; 125];
     let mut levels = [0u8; 744];
     let mut waits = [0u8; 504];
     let mut numbers = [0u32; 76];
