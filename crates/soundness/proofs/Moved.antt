@@ -12,32 +12,32 @@ use Rattle.laws.proofs.Number.{same?, below?}
 use Rattle.model.specs.declared.Task.{Task}
 use Rattle.model.specs.declared.State.{State}
 use Rattle.model.specs.declared.News.{News}
-use Rattle.model.specs.Task.{noTask, dormant, activated, withCharge, settled, aged, told}
-use Rattle.model.specs.State.{task, moved, recharged}
+use Rattle.model.specs.Task.{noTask, dormant, activated, withMarks, settled, aged, told}
+use Rattle.model.specs.State.{task, time, moved, marked}
 use Rattle.model.specs.Effect.{stopped, toldAll, lapsed}
 
 -- ---- the records
 pub task-kept : (s : State) (u : ℕ) (x : Task) (t : ℕ) → (u ≡ t → ⊥) → task (moved u x s) t ≡ task s t
 unfolding moved
-task-kept s u x t apart = getD-set-other (s .tasks) u t (settled (task s u) x) noTask (λ e. apart (sym e))
+task-kept s u x t apart = getD-set-other (s .tasks) u t (settled (time s) (task s u) x) noTask (λ e. apart (sym e))
 
-pub task-moved : (s : State) (t : ℕ) (x : Task) → t < length (s .tasks) → task (moved t x s) t ≡ settled (task s t) x
+pub task-moved : (s : State) (t : ℕ) (x : Task) → t < length (s .tasks) → task (moved t x s) t ≡ settled (time s) (task s t) x
 unfolding moved
-task-moved s t x h = getD-set-same (s .tasks) t (settled (task s t) x) noTask h
+task-moved s t x h = getD-set-same (s .tasks) t (settled (time s) (task s t) x) noTask h
 
 pub tasks-moved : (s : State) (u : ℕ) (x : Task) → length (moved u x s .tasks) ≡ length (s .tasks)
 unfolding moved
-tasks-moved s u x = length-set (s .tasks) u (settled (task s u) x)
+tasks-moved s u x = length-set (s .tasks) u (settled (time s) (task s u) x)
 
--- what holds of t's record with any charge holds of it after a task was charged
-pub task-recharged : (P : Task → Type 0) (s : State) (u n t : ℕ) → ((c : ℕ) → P (withCharge (task s t) c)) → P (task (recharged u n s) t)
-unfolding recharged
-task-recharged P s u n t holds = ⊎-elim
-    (λ (e : t ≡ u). ⊎-elim
-    (λ (h : u < length (s .tasks)). rw (e, getD-set-same (s .tasks) u (withCharge (task s u) n) noTask h) (rw e at (holds n)))
-    (λ (h : length (s .tasks) ≤ u). rw (set-out (s .tasks) u (withCharge (task s u) n) h) (holds (task s t .charge)))
+-- what holds of t's record with any marks holds of it after a task was marked
+pub task-marked : (P : Task → Type 0) (s : State) (u n e t : ℕ) → ((c d : ℕ) → P (withMarks (task s t) c d)) → P (task (marked u n e s) t)
+unfolding marked
+task-marked P s u n e t holds = ⊎-elim
+    (λ (z : t ≡ u). ⊎-elim
+    (λ (h : u < length (s .tasks)). rw (z, getD-set-same (s .tasks) u (withMarks (task s u) n e) noTask h) (rw z at (holds n e)))
+    (λ (h : length (s .tasks) ≤ u). rw (set-out (s .tasks) u (withMarks (task s u) n e) h) (holds (task s t .charge) (task s t .entered)))
     (below? u (length (s .tasks))))
-    (λ (other : t ≡ u → ⊥). rw (getD-set-other (s .tasks) u t (withCharge (task s u) n) noTask other) (holds (task s t .charge)))
+    (λ (other : t ≡ u → ⊥). rw (getD-set-other (s .tasks) u t (withMarks (task s u) n e) noTask other) (holds (task s t .charge) (task s t .entered)))
     (same? t u)
 
 -- ---- the numbers
