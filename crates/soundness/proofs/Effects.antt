@@ -21,7 +21,7 @@ use Rattle.laws.proofs.Record.{level-marks, level-dormant, flag-row}
 use Rattle.soundness.proofs.Changes.{sound-moved, sound-counted, sound-flagged, sound-withTime}
 use Rattle.soundness.proofs.Charging.{marks-after, sound-marked, entry-rests, sound-rotated}
 use Rattle.soundness.proofs.Records.{Stays, sound-dormant, sound-activated, sound-aged, aged-row}
-use Rattle.soundness.proofs.Moved.{numbers-told}
+use Rattle.soundness.proofs.Folds.{numbers-told}
 use Rattle.soundness.proofs.Running.{runner}
 use Rattle.soundness.proofs.Told.{may-none, may-same, waiter-in, Told, told-row}
 

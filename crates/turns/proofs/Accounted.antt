@@ -41,7 +41,7 @@ use Rattle.ways.proofs.Done.{Made, Takes, atOnce, byPoll, Done, Way, refuses, a
 use Rattle.ways.proofs.Done.{Done as Ways}
 use Rattle.ways.proofs.Ways.{way}
 use Rattle.turns.proofs.Still.{Charged, only-charged}
-use Rattle.soundness.proofs.Moved.{numbers-moved, numbers-stopped, numbers-told, numbers-lapsed}
+use Rattle.soundness.proofs.Folds.{numbers-moved, numbers-stopped, numbers-told, numbers-lapsed}
 use Rattle.turns.proofs.Handed.{one-is-served, nobody-is-served}
 
 -- what the theorem keeps from call to call, of a semaphore with count c and maximum v: its account is even, and none is kept of one
