@@ -21,7 +21,7 @@ use Rattle.services.proofs.Numbers.{Rest, has, none-is, both-left, both
 abbrev Early : (List ℕ → ℕ) → Type 0
 Early f = (s t : List ℕ) → begins s t ≡ true → 13 ≤ length t → f t ≡ f s
 
-early-byte : (i : ℕ) → i < 13 → Early (λ s. getD s i 0)
+pub early-byte : (i : ℕ) → i < 13 → Early (λ s. getD s i 0)
 early-byte i h s t e g = sym (begins-at s t e i (omega arith))
 
 -- every name that lists hold has 13, with its comma; one that they do not hold has no key to speak of
@@ -59,7 +59,7 @@ by-key f early (x ∷ xs) t k s =
     go false g b p d q ih = ih
 
 -- r is what the rows of the key m give, and m is what was read of s
-at-key : {r : Name} (f : List ℕ → ℕ) → Early f → (xs : List Service) → So (long xs) → (k : ℕ) (s : List ℕ) {m : ℕ} → m ≡ f s → r ≡ keyed f xs k m s → r ≡ nameIn xs k s
+pub at-key : {r : Name} (f : List ℕ → ℕ) → Early f → (xs : List Service) → So (long xs) → (k : ℕ) (s : List ℕ) {m : ℕ} → m ≡ f s → r ≡ keyed f xs k m s → r ≡ nameIn xs k s
 at-key f early xs t k s e p = p ∙ ap (λ (h : ℕ). keyed f xs k h s) e ∙ by-key f early xs t k s
 
 -- ---- the keys that the reader goes by: a family's by one byte, a task's or a flag's service by two, a semaphore's by one

@@ -1,4 +1,5 @@
 pub mod Numbers
 pub mod Keys
+pub mod Held
 pub mod Table
 pub mod Known
