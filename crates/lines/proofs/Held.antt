@@ -9,7 +9,7 @@ use Rattle.text.specs.Bytes.{bytes, begins}
 use Rattle.model.specs.Services.{service}
 use Rattle.services.specs.declared.names.Name.the-variants.{Unknown}
 use Rattle.services.specs.Names.{nameOf}
-use Rattle.services.proofs.Held.{no-list-holds-ready-ticks}
+use Rattle.services.proofs.Keys.{no-list-holds-ready-ticks}
 use Rattle.lines.specs.declared.line.Letter.{Letter}
 use Rattle.lines.specs.declared.line.Letter.the-variants.{Is, NoLetter}
 use Rattle.lines.specs.declared.line.Line.the-variants.{Reads, Unreadable}

@@ -30,8 +30,8 @@ use Rattle.lines.specs.declared.line.Header.the-variants.{Ends, NoHeader
 use Rattle.lines.specs.Fields.{fieldOf, numberThen, commaField, endOf, lastField, tailField, narrowTail, wideTail, tailOf, fieldThen, tailThen, fieldsOf}
 use Rattle.lines.specs.Lines.{letterOf, letterThen, nameThen, fieldsThen, lineOf, headerEndThen, headed, headerOf}
 use Rattle.services.proofs.Numbers.{both-left, both-right}
-use Rattle.services.proofs.Keys.{isLong, long}
-use Rattle.services.proofs.Held.{begun-long}
+use Rattle.services.proofs.Held.{isLong, begun-long}
+use Rattle.services.proofs.Keys.{long}
 
 -- each answer's length is at least that
 abbrev pub NameHas : Name → Type 0

@@ -1,19 +1,25 @@
--- Which names lists hold: one that begins a part of a file is of the table, with its bytes; `ready_ticks` begins none.
--- It rests on the definition and, for `ready_ticks`, on the first byte of every name that lists hold, which antt computes.
+-- Which names lists hold: not `ready_ticks`, which is a call of the library; and one that they hold begins a part of a file by its bytes.
+-- It rests on the definition; antt computes it over the table for `ready_ticks`.
 use Prim.Native.Nat.{ℕ, _≤_}
-use mathlib.Core.Path.{_≡_, refl, sym}
+use mathlib.Core.Path.{_≡_, refl}
 use mathlib.Core.Bool.{Bool, true, false, _&&_, false≢true}
 use mathlib.Core.List.{List}
-use native.Mathlib.Omega.{arith}
 use lib.Dec.{T as So, leb, leb→le}
-use lib.ListN.{length, getD}
+use lib.ListN.{length}
 use Rattle.text.specs.Bytes.{bytes, begins}
-use Rattle.text.proofs.Begins.{begins-at}
 use Rattle.model.specs.Test.{implies}
 use Rattle.model.specs.Services.{Service, tasks, system, semaphores, flags, own, services}
 use Rattle.services.specs.declared.names.Name.the-variants.{Unknown}
 use Rattle.services.specs.Names.{label, begun, nameIn, nameOf}
-use Rattle.services.proofs.Keys.{isLong, long, keyed, early-byte, at-key}
+
+-- Keys has it of whatever bytes begin with that name
+pub ready-ticks-unknown : nameOf (bytes "ready_ticks,") ≡ Unknown
+unfolding nameOf nameIn services tasks system semaphores flags own label begins
+ready-ticks-unknown = refl
+
+-- a name that lists hold has 13 bytes at least, with its comma
+abbrev pub isLong : Service → Bool
+isLong x = implies (x .inLists) (leb 13 (length (label x)))
 
 pub begun-begins : (s : List ℕ) (x : Service) → begun s x ≡ true → begins s (label x) ≡ true
 begun-begins s x e = go (x .inLists) e
@@ -28,14 +34,3 @@ begun-long s x t e = go (x .inLists) t e
     go : (i : Bool) → So (implies i (leb 13 (length (label x)))) → i && begins s (label x) ≡ true → 13 ≤ length (label x)
     go true t e = leb→le 13 (length (label x)) t
     go false t e = absurd (false≢true e)
-
--- no list holds `ready_ticks`: its r (114) is the first byte of no name that lists hold
-pub no-list-holds-ready-ticks : (s : List ℕ) → begins s (bytes "ready_ticks,") ≡ true → nameOf s ≡ Unknown
-unfolding nameOf services tasks system semaphores flags own long label keyed
-no-list-holds-ready-ticks s e =
-    sym (at-key (λ (t : List ℕ). getD t 0 0) (early-byte 0 (omega arith)) services tt 1 s {m = 114} (sym (begins-at s (bytes "ready_ticks,") e 0 (omega arith))) refl)
-
--- the same of its name alone, by the definition alone
-pub ready-ticks-unknown : nameOf (bytes "ready_ticks,") ≡ Unknown
-unfolding nameOf nameIn services tasks system semaphores flags own label begins
-ready-ticks-unknown = refl

@@ -8,26 +8,24 @@ use native.Mathlib.Omega.{arith}
 use lib.Dec.{T as So, leb, eqb, leb→le}
 use lib.ListN.{length, getD}
 use borrow.Author.Tests.{eq-eqb, ne-eqb, eqb-true}
-use Rattle.text.specs.Bytes.{begins}
+use Rattle.text.specs.Bytes.{bytes, begins}
 use Rattle.text.proofs.Begins.{begins-at}
 use Rattle.model.specs.Test.{implies}
 use Rattle.model.specs.Services.{Service, tasks, system, semaphores, flags, own, services}
 use Rattle.services.specs.declared.names.Name.{Name}
 use Rattle.services.specs.declared.names.Name.the-variants.{Known, Unknown}
 use Rattle.services.specs.Names.{label, begun, nameIn, nameOf}
+use Rattle.services.proofs.Held.{isLong}
 use Rattle.services.proofs.Numbers.{Rest, has, none-is, both-left, both-right}
 
 -- what can be told from the first 13 bytes: of bytes that begin with a text, what the text tells
 abbrev Early : (List ℕ → ℕ) → Type 0
 Early f = (s t : List ℕ) → begins s t ≡ true → 13 ≤ length t → f t ≡ f s
 
-pub early-byte : (i : ℕ) → i < 13 → Early (λ s. getD s i 0)
+early-byte : (i : ℕ) → i < 13 → Early (λ s. getD s i 0)
 early-byte i h s t e g = sym (begins-at s t e i (omega arith))
 
 -- every name that lists hold has 13, with its comma; one that they do not hold has no key to speak of
-abbrev pub isLong : Service → Bool
-isLong x = implies (x .inLists) (leb 13 (length (label x)))
-
 unfoldable pub long : List Service → Bool
 long [] = true
 long (x ∷ xs) = isLong x && long xs
@@ -59,7 +57,7 @@ by-key f early (x ∷ xs) t k s =
     go false g b p d q ih = ih
 
 -- r is what the rows of the key m give, and m is what was read of s
-pub at-key : {r : Name} (f : List ℕ → ℕ) → Early f → (xs : List Service) → So (long xs) → (k : ℕ) (s : List ℕ) {m : ℕ} → m ≡ f s → r ≡ keyed f xs k m s → r ≡ nameIn xs k s
+at-key : {r : Name} (f : List ℕ → ℕ) → Early f → (xs : List Service) → So (long xs) → (k : ℕ) (s : List ℕ) {m : ℕ} → m ≡ f s → r ≡ keyed f xs k m s → r ≡ nameIn xs k s
 at-key f early xs t k s e p = p ∙ ap (λ (h : ℕ). keyed f xs k h s) e ∙ by-key f early xs t k s
 
 -- ---- the keys that the reader goes by: a family's by one byte, a task's or a flag's service by two, a semaphore's by one
@@ -138,3 +136,9 @@ no-semaphore s h p r = at-semaphore s p refl (no-key semaphoreKey semaphoreKeys 
 pub no-flag : (s : List ℕ) (a b : ℕ) → a ≡ getD s 10 0 → b ≡ getD s 12 0 → Rest flagKeys (a + b) Unit → Unknown ≡ nameIn flags 24 s
 unfolding flags label has covered
 no-flag s a b p o r = at-flag s p o refl (no-key flagKey flagKeys flags tt 24 (a + b) s r)
+
+-- no list holds `ready_ticks`: its r (114) is the first byte of no name that lists hold
+pub no-list-holds-ready-ticks : (s : List ℕ) → begins s (bytes "ready_ticks,") ≡ true → nameOf s ≡ Unknown
+unfolding nameOf services tasks system semaphores flags own long label keyed
+no-list-holds-ready-ticks s e =
+    sym (at-key (λ (t : List ℕ). getD t 0 0) (early-byte 0 (omega arith)) services tt 1 s {m = 114} (sym (begins-at s (bytes "ready_ticks,") e 0 (omega arith))) refl)
