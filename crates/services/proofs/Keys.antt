@@ -14,7 +14,7 @@ use Rattle.model.specs.Test.{implies}
 use Rattle.model.specs.Services.{Service, tasks, system, semaphores, flags, own, services}
 use Rattle.services.specs.declared.names.Name.{Name}
 use Rattle.services.specs.declared.names.Name.the-variants.{Known, Unknown}
-use Rattle.services.specs.Names.{label, begun, nameIn, nameOf}
+use Rattle.services.specs.Names.{label, nameIn, nameOf}
 use Rattle.services.proofs.Held.{isLong}
 use Rattle.services.proofs.Numbers.{Rest, has, none-is, both-left, both-right}
 
