@@ -1,3 +1,4 @@
 pub mod Within
 pub mod Vectors
 pub mod Long
+pub mod Held

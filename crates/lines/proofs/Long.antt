@@ -4,17 +4,17 @@ use Prim.Native.Nat.{ℕ, _+_, _*_, _≤_}
 use mathlib.Core.Bool.{Bool, true, false, cond}
 use mathlib.Core.List.{List, [], _∷_}
 use native.Mathlib.Omega.{arith}
-use lib.Dec.{T as So, ltb, leb, eqb, leb→le}
+use lib.Dec.{T as So, ltb, eqb}
 use lib.ListN.{length, getD, drop}
 use Rattle.text.specs.declared.number.Number.{Number}
 use Rattle.text.specs.declared.number.Number.the-variants.{Digits, NoNumber}
 use Rattle.text.specs.Bytes.{bytes, begins}
 use Rattle.text.proofs.Reading.{cond-by}
 use Rattle.model.specs.declared.Context.{Context}
-use Rattle.model.specs.Services.{Service, tasks, system, semaphores, flags, services, service}
+use Rattle.model.specs.Services.{Service, tasks, system, semaphores, flags, own, services, service}
 use Rattle.services.specs.declared.names.Name.{Name}
 use Rattle.services.specs.declared.names.Name.the-variants.{Known, Unknown}
-use Rattle.services.specs.Names.{label, nameIn, nameOf}
+use Rattle.services.specs.Names.{label, begun, nameIn, nameOf}
 use Rattle.lines.specs.declared.fields.End.{End}
 use Rattle.lines.specs.declared.fields.End.the-variants.{Closes, NoEnd}
 use Rattle.lines.specs.declared.fields.Tail.{Tail}
@@ -30,6 +30,7 @@ use Rattle.lines.specs.declared.line.Header.the-variants.{Ends, NoHeader
 use Rattle.lines.specs.Fields.{fieldOf, numberThen, commaField, endOf, lastField, tailField, narrowTail, wideTail, tailOf, fieldThen, tailThen, fieldsOf}
 use Rattle.lines.specs.Lines.{letterOf, letterThen, nameThen, fieldsThen, lineOf, headerEndThen, headed, headerOf}
 use Rattle.services.proofs.Numbers.{both-left, both-right}
+use Rattle.services.proofs.Held.{isLong, begun-long}
 use Rattle.services.proofs.Keys.{long}
 
 -- each answer's length is at least that
@@ -65,11 +66,11 @@ name-among : (xs : List Service) → So (long xs) → (k : ℕ) (s : List ℕ) �
 unfolding nameIn long
 name-among [] t k s = tt
 name-among (x ∷ xs) t k s =
-    cond-by NameHas (begins s (label x)) (Known k (length (x .fields)) (length (label x))) (nameIn xs (k + 1) s)
-    (λ e. leb→le 13 (length (label x)) (both-left (leb 13 (length (label x))) (long xs) t)) (name-among xs (both-right (leb 13 (length (label x))) (long xs) t) (k + 1) s)
+    cond-by NameHas (begun s x) (Known k (length (x .fields)) (length (label x))) (nameIn xs (k + 1) s)
+    (begun-long s x (both-left (isLong x) (long xs) t)) (name-among xs (both-right (isLong x) (long xs) t) (k + 1) s)
 
 pub name-has : (s : List ℕ) → NameHas (nameOf s)
-unfolding nameOf services tasks system semaphores flags long label
+unfolding nameOf services tasks system semaphores flags own long label
 name-has s = name-among services tt 1 s
 
 pub comma-has : (used : Bool) (s : List ℕ) → NumberHas (commaField used s)

@@ -9,7 +9,7 @@ use Rattle.text.specs.Number.{isDigit, digits, valueAfter, numeral, numberOf}
 use Rattle.model.specs.declared.Context.the-variants.{T, I}
 use Rattle.model.specs.declared.Call.the-variants.{TaskCreate, TaskExit, TaskSleep, TickIntProcessing, SemCreate, SemSignal, SemIsignal, SemAcquire, SemPolling, OnFlag}
 use Rattle.model.specs.declared.FlagService.the-variants.{Create, Wait, WaitPolling, Iwait}
-use Rattle.model.specs.Services.{tasks, system, semaphores, flags, services, service}
+use Rattle.model.specs.Services.{tasks, system, semaphores, flags, own, services, service}
 use Rattle.services.specs.Names.{label, nameIn, nameOf}
 use Rattle.lines.specs.declared.line.Line.{Line}
 use Rattle.lines.specs.declared.line.Line.the-variants.{Reads, Unreadable}
@@ -70,6 +70,9 @@ rows =
     ∷ ("I,tn_task_exit,,,\n" reads Reads I TaskExit 18)
     ∷ ("T,tn_task_isuspend,1,,\n" reads Unreadable)
     ∷ ("T,tn_task_exi,,,\n" reads Unreadable)
+    -- a call of the library, in no list
+    ∷ ("T,ready_ticks,1,,\n" reads Unreadable)
+    ∷ ("T,tn_ready_ticks,1,,\n" reads Unreadable)
     -- the flags: all but the wait, whose timeout has no field
     ∷ ("T,tn_event_create,8,3,0\n" reads Reads T (OnFlag 8 (Create 3 0)) 24)
     ∷ ("T,tn_event_wait_polling,1,1,0\n" reads Reads T (OnFlag 1 (WaitPolling 1 0)) 30)
@@ -93,14 +96,15 @@ wideRows =
     ∷ ("T,tn_event_wait,1,1,0,4294967296\n" reads Unreadable)
     ∷ ("T,tn_event_wait,1,1,0,5,\n" reads Unreadable)
     ∷ ("T,tn_event_wait_polling,1,1,0,0\n" reads Unreadable)
+    ∷ ("T,ready_ticks,1,,,\n" reads Unreadable)
     ∷ []
 
 pub lines-read : given false rows ≡ wanted rows
-unfolding rows lineOf letterOf nameOf nameIn label services tasks system semaphores flags service fieldsOf tailOf narrowTail fieldOf commaField lastField endOf numberOf numeral valueAfter digits isDigit begins
+unfolding rows lineOf letterOf nameOf nameIn label services tasks system semaphores flags own service fieldsOf tailOf narrowTail fieldOf commaField lastField endOf numberOf numeral valueAfter digits isDigit begins
 lines-read = refl
 
 pub wide-lines-read : given true wideRows ≡ wanted wideRows
-unfolding wideRows lineOf letterOf nameOf nameIn label services tasks system semaphores flags service fieldsOf tailOf wideTail fieldOf commaField lastField endOf numberOf numeral valueAfter digits isDigit begins
+unfolding wideRows lineOf letterOf nameOf nameIn label services tasks system semaphores flags own service fieldsOf tailOf wideTail fieldOf commaField lastField endOf numberOf numeral valueAfter digits isDigit begins
 wide-lines-read = refl
 
 abbrev pub headers : List Header

@@ -19,7 +19,8 @@ use Rattle.model.specs.declared.Context.the-variants.{T, I}
 use Rattle.model.specs.Services.{Service, services, service}
 use Rattle.services.specs.declared.names.Name.{Name}
 use Rattle.services.specs.declared.names.Name.the-variants.{Known, Unknown}
-use Rattle.services.specs.Names.{label, nameIn, nameOf}
+use Rattle.services.specs.Names.{label, begun, nameIn, nameOf}
+use Rattle.services.proofs.Held.{begun-begins}
 use Rattle.lines.specs.declared.fields.End.{End}
 use Rattle.lines.specs.declared.fields.End.the-variants.{Closes, NoEnd}
 use Rattle.lines.specs.declared.fields.Tail.{Tail}
@@ -162,8 +163,8 @@ name-among : (xs : List Service) (k : ℕ) (s : List ℕ) → NameIn (nameIn xs 
 unfolding nameIn
 name-among [] k s = tt
 name-among (x ∷ xs) k s =
-    cond-by (λ (t : Name). NameIn t (length s)) (begins s (label x)) (Known k (length (x .fields)) (length (label x))) (nameIn xs (k + 1) s)
-    (λ e. begins-in s (label x) e) (name-among xs (k + 1) s)
+    cond-by (λ (t : Name). NameIn t (length s)) (begun s x) (Known k (length (x .fields)) (length (label x))) (nameIn xs (k + 1) s)
+    (λ e. begins-in s (label x) (begun-begins s x e)) (name-among xs (k + 1) s)
 
 pub name-in : (s : List ℕ) → NameIn (nameOf s) (length s)
 unfolding nameOf

@@ -7,7 +7,6 @@ use mathlib.Core.List.{List, [], _∷_}
 use native.Mathlib.Omega.{arith}
 use lib.ListN.{length}
 use borrow.Author.Tests.{le-leb}
-use Rattle.text.specs.Bytes.{begins}
 use Rattle.text.proofs.Reading.{cond-by}
 use Rattle.model.specs.declared.Call.{Call}
 use Rattle.model.specs.Plan.{within}
@@ -16,7 +15,7 @@ use Rattle.services.specs.declared.calls.Asked.{Asked}
 use Rattle.services.specs.declared.calls.Asked.the-variants.{Named, Nothing}
 use Rattle.services.specs.declared.names.Name.{Name}
 use Rattle.services.specs.declared.names.Name.the-variants.{Known, Unknown}
-use Rattle.services.specs.Names.{label, nameIn, nameOf}
+use Rattle.services.specs.Names.{label, begun, nameIn, nameOf}
 use Rattle.services.specs.Calls.{isService, asked}
 use Rattle.services.proofs.Table.{table-size}
 
@@ -24,15 +23,15 @@ abbrev pub OfService : Name → Type 0
 OfService (Known k n i) = isService k ≡ true
 OfService Unknown = Unit
 
-in-range : (k : ℕ) → 1 ≤ k → k ≤ 32 → isService k ≡ true
+in-range : (k : ℕ) → 1 ≤ k → k ≤ 33 → isService k ≡ true
 unfolding within
-in-range k h g = rw (le-leb 1 k h, le-leb k 32 g)
+in-range k h g = rw (le-leb 1 k h, le-leb k 33 g)
 
-name-among : (xs : List Service) (k : ℕ) (s : List ℕ) → 1 ≤ k → k + length xs ≤ 33 → OfService (nameIn xs k s)
+name-among : (xs : List Service) (k : ℕ) (s : List ℕ) → 1 ≤ k → k + length xs ≤ 34 → OfService (nameIn xs k s)
 unfolding nameIn
 name-among [] k s h g = tt
 name-among (x ∷ xs) k s h g =
-    cond-by OfService (begins s (label x)) (Known k (length (x .fields)) (length (label x))) (nameIn xs (k + 1) s)
+    cond-by OfService (begun s x) (Known k (length (x .fields)) (length (label x))) (nameIn xs (k + 1) s)
     (λ e. in-range k h (omega arith)) (name-among xs (k + 1) s (omega arith) (omega arith))
 
 pub name-known : (s : List ℕ) → OfService (nameOf s)

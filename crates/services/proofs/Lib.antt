@@ -1,4 +1,5 @@
 pub mod Numbers
+pub mod Held
 pub mod Keys
 pub mod Table
 pub mod Known

@@ -52,15 +52,15 @@ above (suc n) i x N r h =
     let m = out (upFrom (suc i) n) x (N × (x ≡ i → ⊥)) r .1 in
     omega (arith, above n (suc i) x (N × (x ≡ i → ⊥)) r (omega arith))
 
-pub past : (x : ℕ) → 33 ≤ x → isService x ≡ false
+pub past : (x : ℕ) → 34 ≤ x → isService x ≡ false
 unfolding within
-past x h = rw (le-leb 1 x (omega arith), lt-leb x 32 (omega arith))
+past x h = rw (le-leb 1 x (omega arith), lt-leb x 33 (omega arith))
 
--- none of the 32 numbers of services
-pub no-service : (x : ℕ) → Rest (upFrom 1 32) x Unit → isService x ≡ false
+-- none of the 33 numbers of services
+pub no-service : (x : ℕ) → Rest (upFrom 1 33) x Unit → isService x ≡ false
 unfolding within
 no-service zero r = refl
-no-service (suc x) r = past (suc x) (above 32 1 (suc x) Unit r (omega arith))
+no-service (suc x) r = past (suc x) (above 33 1 (suc x) Unit r (omega arith))
 
 -- ---- a test at each number below n
 unfoldable pub below : ℕ → (ℕ → Bool) → Bool

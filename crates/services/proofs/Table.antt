@@ -10,7 +10,7 @@ use lib.ListN.{length}
 use borrow.Author.Tests.{leb-true}
 use Rattle.text.specs.Bytes.{begins}
 use Rattle.model.specs.Plan.{within}
-use Rattle.model.specs.Services.{Service, tasks, system, semaphores, flags, services, service, serviceNumber}
+use Rattle.model.specs.Services.{Service, tasks, system, semaphores, flags, own, services, service, serviceNumber}
 use Rattle.services.specs.Names.{label}
 use Rattle.services.specs.Calls.{isService}
 use Rattle.services.proofs.Numbers.{fits, at-place}
@@ -26,16 +26,16 @@ right [] = true
 right (x ∷ xs) = leb (length (x .fields)) 4 && apart x xs && right xs
 
 pub table-right : right services ≡ true
-unfolding right apart services tasks system semaphores flags label begins
+unfolding right apart services tasks system semaphores flags own label begins
 table-right = refl
 
-pub table-size : length services ≡ 32
-unfolding services tasks system semaphores flags
+pub table-size : length services ≡ 33
+unfolding services tasks system semaphores flags own
 table-size = refl
 
 -- the call of each row, from 1 on, is of the service of its number, whatever the numbers are
 table-agrees : (a b c d : ℕ) → So (fits (λ (x : Service). serviceNumber (x .call a b c d)) (λ k. k) 1 services)
-unfolding fits services tasks system semaphores flags
+unfolding fits services tasks system semaphores flags own
 table-agrees a b c d = tt
 
 -- ---- what a range test of a number tells
@@ -43,16 +43,16 @@ pub service-low : (n : ℕ) → isService n ≡ true → 1 ≤ n
 unfolding within
 service-low n h = go (leb 1 n) refl h
   where
-    go : (b : Bool) → leb 1 n ≡ b → b && leb n 32 ≡ true → 1 ≤ n
+    go : (b : Bool) → leb 1 n ≡ b → b && leb n 33 ≡ true → 1 ≤ n
     go true e h = leb-true 1 n e
     go false e h = let z : _≡_ {A = ℕ} 0 1 = cc in omega arith
 
-pub service-top : (n : ℕ) → isService n ≡ true → n ≤ 32
+pub service-top : (n : ℕ) → isService n ≡ true → n ≤ 33
 unfolding within
 service-top n h = go (leb 1 n) h
   where
-    go : (b : Bool) → b && leb n 32 ≡ true → n ≤ 32
-    go true h = leb-true n 32 h
+    go : (b : Bool) → b && leb n 33 ≡ true → n ≤ 33
+    go true h = leb-true n 33 h
     go false h = let z : _≡_ {A = ℕ} 0 1 = cc in omega arith
 
 -- table and calls agree: a service makes calls of its own number

@@ -8,7 +8,7 @@ use Rattle.services.specs.declared.calls.Asked.{Asked}
 use Rattle.services.specs.declared.calls.Asked.the-variants.{Named, Nothing}
 
 abbrev pub isService : ℕ → Bool
-isService n = within 1 n 32
+isService n = within 1 n 33
 
 unfoldable pub asked : ℕ → ℕ → ℕ → ℕ → ℕ → Asked
 asked n a b c d = cond (isService n) (Named (service n .call a b c d)) Nothing

@@ -1,4 +1,4 @@
-// A service by its number, from 1 to 32 as include/gritgarland.h has them: the call that it makes.
+// A service by its number, from 1 to 33 as include/gritgarland.h has them: the call that it makes.
 // The function is a definition of specs/Calls, for every value; it rests on model alone.
 ghost use mathlib.Core.Path.{_≡_};
 ghost use Rattle.services.specs.Calls.{asked};
@@ -102,6 +102,7 @@ pub fn call_of(number: u32, a: u32, b: u32, c: u32, d: u32) -> Asked
                 mode: c,
             },
         }),
+        33 => Asked::Named(Call::ReadyTicks { task: a }),
         _ => Asked::Nothing,
     }
 }

@@ -1,4 +1,4 @@
-// The service whose name, with the comma after it, begins a part of a file.
+// The service whose name, with the comma after it, begins a part of a file: of those that lists hold, the first 32.
 // Each function is a definition of specs/Names, for every value; it rests on text.
 ghost use mathlib.Core.Path.{_≡_};
 ghost use Rattle.model.specs.Services.{tasks, semaphores, flags};

@@ -14,10 +14,10 @@ use Rattle.model.specs.declared.Numbers.{Numbers}
 use Rattle.model.specs.declared.State.{State}
 use Rattle.model.specs.Flag.{isFlagAttributes, isSingle, isMet}
 use Rattle.model.specs.Task.{noTask, levelOf, rowOf, settled}
-use Rattle.model.specs.State.{task, count, maximum, attribute, bitsOf, moved, counted, flagged, withTime}
+use Rattle.model.specs.State.{task, time, count, maximum, attribute, bitsOf, moved, counted, flagged, withTime}
 use Rattle.model.specs.Sound.{SoundTask, SoundSlices, SoundCharge, at, SoundSemaphores, SoundFlags, Sound}
 use Rattle.laws.proofs.Number.{same?, below?}
-use Rattle.laws.proofs.Record.{level-none, level-charge, sound-charge}
+use Rattle.laws.proofs.Record.{level-none, level-settled, sound-settled}
 use Rattle.soundness.proofs.Listed.{lists-relisted}
 use Rattle.soundness.proofs.Charges.{charge-none}
 use Rattle.soundness.proofs.Orderly.{Orderly, sound-orderly, no-task, task-now, task-else, task-cases, orderly-moved}
@@ -62,23 +62,23 @@ module _ (s : State) (k : Sound s) (t : ℕ) (x : Task) (some : 1 ≤ t) (top : 
   after : Orderly (moved t x s)
   after = orderly-moved s order t x some top
 
-  cases : (P : Task → Type 0) (u : ℕ) → (u ≡ t → P (settled (task s t) x)) → ((u ≡ t → ⊥) → P (task s u)) → P (task (moved t x s) u)
+  cases : (P : Task → Type 0) (u : ℕ) → (u ≡ t → P (settled (time s) (task s t) x)) → ((u ≡ t → ⊥) → P (task s u)) → P (task (moved t x s) u)
   cases = task-cases s order t x some top
 
   module _ (sound : SoundTask x) (may : MayWait s t x) where
     -- one not created has no level, and so no charge
-    bare : x .base ≡ 0 → settled (task s t) x .charge ≡ 0
+    bare : x .base ≡ 0 → settled (time s) (task s t) x .charge ≡ 0
     bare none =
         let z = task-now s order t x some top in
         rw z at (charge-none (moved t x s .levels) (moved t x s .numbers .slices) (after .slices) t (task (moved t x s) t) (after .charges t)
-        (ap levelOf z ∙ level-charge x (settled (task s t) x .charge) ∙ ap levelOf (sound .blank none) ∙ level-none))
+        (ap levelOf z ∙ level-settled (time s) (task s t) x ∙ ap levelOf (sound .blank none) ∙ level-none))
 
     pub sound-moved : Sound (moved t x s)
     unfolding moved rowOf
     sound-moved = record {
       tasks# = after .tasks#;
       nobody = after .nobody;
-      tasks = λ u. cases SoundTask u (λ e. sound-charge x (settled (task s t) x .charge) sound bare) (λ other. k .tasks u);
+      tasks = λ u. cases SoundTask u (λ e. sound-settled (time s) (task s t) x sound bare) (λ other. k .tasks u);
       levels = after .levels;
       waits = lists-relisted (s .waits) 21 (λ u. rowOf (task s u)) (k .waits) t (rowOf x) some top (λ u h. ap rowOf (no-task s order u h))
           (λ u. rowOf (task (moved t x s) u)) (ap rowOf (task-now s order t x some top)) (λ u other. ap rowOf (task-else s order t x some top u other));

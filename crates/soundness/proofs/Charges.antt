@@ -12,7 +12,7 @@ use Rattle.model.specs.Row.{row, firstOf, withRow, turned, relisted}
 use Rattle.model.specs.Task.{levelOf, settled}
 use Rattle.model.specs.Sound.{SoundSlices, SoundCharge, at}
 use Rattle.laws.proofs.Number.{same?}
-use Rattle.laws.proofs.Record.{level-charge}
+use Rattle.laws.proofs.Record.{level-settled}
 use Rattle.laws.proofs.Relisted.{relisted-kept}
 use Rattle.laws.proofs.Table.{row-withRow-other}
 use Rattle.soundness.proofs.Listed.{first-relisted}
@@ -29,14 +29,14 @@ module _ (ls : List Queue) (vs : List ℕ) (slices : SoundSlices vs) where
       c
 
   -- ---- task t, whose record is k, gets record x
-  module _ (t : ℕ) (k x : Task) where
+  module _ (now t : ℕ) (k x : Task) where
     abbrev moves : List Queue
     moves = relisted ls (levelOf k) (levelOf x) t
 
     -- it keeps its charge in its level, and has none in another
-    pub charge-settled : SoundCharge ls vs t k → SoundCharge moves vs t (settled k x)
+    pub charge-settled : SoundCharge ls vs t k → SoundCharge moves vs t (settled now k x)
     charge-settled c = ⊎-elim
-        (λ (e : levelOf k ≡ levelOf x). rw (level-charge x (settled k x .charge), relisted-kept ls (levelOf k) (levelOf x) t e, eq-eqb (levelOf k) (levelOf x) e) (rw e at c))
+        (λ (e : levelOf k ≡ levelOf x). rw (level-settled now k x, relisted-kept ls (levelOf k) (levelOf x) t e, eq-eqb (levelOf k) (levelOf x) e) (rw e at c))
         (λ (other : levelOf k ≡ levelOf x → ⊥). rw (ne-eqb (levelOf k) (levelOf x) other) (inl refl))
         (same? (levelOf k) (levelOf x))
 

@@ -14,14 +14,14 @@ use Rattle.model.specs.declared.News.the-variants.{Deleted}
 use Rattle.model.specs.Row.{firstOf}
 use Rattle.model.specs.Flag.{isFlagAttributes, isSingle, isMet}
 use Rattle.model.specs.Task.{dormant, activated, aged, levelOf, rowOf}
-use Rattle.model.specs.State.{task, slice, attribute, time, waiters, running, moved, recharged, rotated, withTime}
-use Rattle.model.specs.Effect.{stopped, toldAll, deleted, toldFlag, chargedIn, charged, lapsed, ticked}
+use Rattle.model.specs.State.{task, slice, attribute, time, waiters, running, moved, marked, recharged, rotated, withTime}
+use Rattle.model.specs.Effect.{stopped, toldAll, deleted, toldFlag, turnedAt, chargedIn, charged, lapsed, ticked}
 use Rattle.model.specs.Sound.{SoundTask, Sound}
-use Rattle.laws.proofs.Record.{level-charge, flag-row}
+use Rattle.laws.proofs.Record.{level-marks, level-dormant, flag-row}
 use Rattle.soundness.proofs.Changes.{sound-moved, sound-counted, sound-flagged, sound-withTime}
-use Rattle.soundness.proofs.Charging.{charge-after, sound-recharged, sound-rotated}
+use Rattle.soundness.proofs.Charging.{marks-after, sound-marked, entry-rests, sound-rotated}
 use Rattle.soundness.proofs.Records.{Stays, sound-dormant, sound-activated, sound-aged, aged-row}
-use Rattle.soundness.proofs.Moved.{numbers-told}
+use Rattle.soundness.proofs.Folds.{numbers-told}
 use Rattle.soundness.proofs.Running.{runner}
 use Rattle.soundness.proofs.Told.{may-none, may-same, waiter-in, Told, told-row}
 
@@ -81,25 +81,31 @@ sound-toldFlag s k f w a b low top fits = rw (flag-row f low top) (sound-flagged
 
 -- ---- a tick passes
 -- the first of a level is charged
-sound-chargedIn : (s : State) → Sound s → (l t : ℕ) → levelOf (task s t) ≡ l → firstOf (s .levels) l ≡ t → Sound (chargedIn l t s)
+sound-chargedIn : (s : State) → Sound s → (l t : ℕ) → 1 ≤ l → levelOf (task s t) ≡ l → firstOf (s .levels) l ≡ t → Sound (chargedIn l t s)
 unfolding chargedIn
-sound-chargedIn s k l t e f = go (eqb (slice s l) 0) (ltb (task s t .charge + 1) (slice s l)) refl
+sound-chargedIn s k l t some e f = go (eqb (slice s l) 0) (ltb (task s t .charge + 1) (slice s l)) refl
   where
-    clear : task (recharged t 0 s) t .charge ≡ 0
-    clear = rw (charge-after s k t 0 (inl refl) t, eq-eqb t t refl)
+    -- it is in a level, and so not dormant
+    rests : task s t .active ≡ 0 → turnedAt l t s ≡ 0
+    rests z = absurd (omega (arith, level-dormant (task s t) z))
 
-    go : (a b : Bool) → ltb (task s t .charge + 1) (slice s l) ≡ b → Sound (cond a s (cond b (recharged t (task s t .charge + 1) s) (rotated l (recharged t 0 s))))
+    clear : task (marked t 0 (turnedAt l t s) s) t .charge ≡ 0
+    clear = rw (marks-after s k t 0 (turnedAt l t s) (inl refl) rests t, eq-eqb t t refl)
+
+    go : (a b : Bool) → ltb (task s t .charge + 1) (slice s l) ≡ b → Sound (cond a s (cond b (recharged t (task s t .charge + 1) s) (rotated l (marked t 0 (turnedAt l t s) s))))
     go true b g = k
-    go false true g = sound-recharged s k t (task s t .charge + 1) (rw (level-charge (task s t) (task s t .charge + 1), e) (inr (f, ltb-true (task s t .charge + 1) (slice s l) g)))
-    go false false g = sound-rotated (recharged t 0 s) l (sound-recharged s k t 0 (inl refl)) (unfold recharged in rw f clear)
+    go false true g =
+        sound-marked s k t (task s t .charge + 1) (task s t .entered) (rw (level-marks (task s t) (task s t .charge + 1) (task s t .entered), e) (inr (f, ltb-true (task s t .charge + 1) (slice s l) g)))
+        (entry-rests s k t)
+    go false false g = sound-rotated (marked t 0 (turnedAt l t s) s) l (sound-marked s k t 0 (turnedAt l t s) (inl refl) rests) (unfold marked in rw f clear)
 
-pub sound-charged : (s : State) → Sound s → (run : ℕ) → (1 ≤ run → (levelOf (task s run) ≡ task s run .priority) × (firstOf (s .levels) (task s run .priority) ≡ run)) → Sound (charged run s)
+pub sound-charged : (s : State) → Sound s → (run : ℕ) → (1 ≤ run → (1 ≤ levelOf (task s run)) × (levelOf (task s run) ≡ task s run .priority) × (firstOf (s .levels) (task s run .priority) ≡ run)) → Sound (charged run s)
 unfolding charged
 sound-charged s k run first = go (eqb run 0) refl
   where
     go : (b : Bool) → eqb run 0 ≡ b → Sound (cond b s (chargedIn (task s run .priority) run s))
     go true e = k
-    go false e = let some : run ≡ 0 → ⊥ = eqb-false run 0 e in let r = first (omega arith) in sound-chargedIn s k (task s run .priority) run (r .0) (r .1)
+    go false e = let some : run ≡ 0 → ⊥ = eqb-false run 0 e in let r = first (omega arith) in sound-chargedIn s k (task s run .priority) run (omega (arith, r)) (r .1) (r .2)
 
 sound-lapsed : (n t : ℕ) (s : State) → Sound s → 1 ≤ t → n + t ≤ 25 → Sound (lapsed n t s)
 unfolding lapsed
@@ -114,5 +120,5 @@ pub sound-ticked : (s : State) → Sound s → Sound (ticked s)
 unfolding ticked
 sound-ticked s k =
     sound-lapsed 24 1 (charged (running s) (withTime ((time s + 1) % 2 ^ 32) s))
-    (sound-charged (withTime ((time s + 1) % 2 ^ 32) s) (sound-withTime s ((time s + 1) % 2 ^ 32) k) (running s) (λ some. let r = runner s k some in (r .level, r .first)))
+    (sound-charged (withTime ((time s + 1) % 2 ^ 32) s) (sound-withTime s ((time s + 1) % 2 ^ 32) k) (running s) (λ some. let r = runner s k some in (r .listed, r .level, r .first)))
     (omega arith) (omega arith)

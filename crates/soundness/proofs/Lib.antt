@@ -1,5 +1,6 @@
 pub mod Listed
 pub mod Moved
+pub mod Folds
 pub mod Charges
 pub mod Orderly
 pub mod Changes

@@ -11,10 +11,10 @@ use Rattle.model.specs.declared.Task.{Task}
 use Rattle.model.specs.declared.State.{State}
 use Rattle.model.specs.Row.{relisted}
 use Rattle.model.specs.Task.{noTask, levelOf, settled}
-use Rattle.model.specs.State.{task, moved}
+use Rattle.model.specs.State.{task, time, moved}
 use Rattle.model.specs.Sound.{Lists, SoundSlices, SoundCharge, Sound}
 use Rattle.laws.proofs.Number.{same?}
-use Rattle.laws.proofs.Record.{level-none, level-charge}
+use Rattle.laws.proofs.Record.{level-none, level-settled}
 use Rattle.soundness.proofs.Listed.{lists-relisted}
 use Rattle.soundness.proofs.Moved.{task-moved, task-kept, tasks-moved}
 use Rattle.soundness.proofs.Charges.{charge-settled, charge-kept}
@@ -42,14 +42,14 @@ module _ (s : State) (k : Orderly s) where
 
   -- ---- a task moves
   module _ (t : ℕ) (x : Task) (some : 1 ≤ t) (top : t ≤ 24) where
-    pub task-now : task (moved t x s) t ≡ settled (task s t) x
+    pub task-now : task (moved t x s) t ≡ settled (time s) (task s t) x
     task-now = task-moved s t x (omega (arith, k .tasks#))
 
     pub task-else : (u : ℕ) → (u ≡ t → ⊥) → task (moved t x s) u ≡ task s u
     task-else u other = task-kept s t x u (λ e. other (sym e))
 
     -- what holds of its new record, and of the others', holds of each
-    pub task-cases : (P : Task → Type 0) (u : ℕ) → (u ≡ t → P (settled (task s t) x)) → ((u ≡ t → ⊥) → P (task s u)) → P (task (moved t x s) u)
+    pub task-cases : (P : Task → Type 0) (u : ℕ) → (u ≡ t → P (settled (time s) (task s t) x)) → ((u ≡ t → ⊥) → P (task s u)) → P (task (moved t x s) u)
     task-cases P u here else = ⊎-elim
         (λ (e : u ≡ t). subst P (sym (ap (task (moved t x s)) e ∙ task-now)) (here e))
         (λ (other : u ≡ t → ⊥). subst P (sym (task-else u other)) (else other))
@@ -57,7 +57,7 @@ module _ (s : State) (k : Orderly s) where
 
     -- its level is its new record's
     level-now : levelOf (task (moved t x s) t) ≡ levelOf x
-    level-now = ap levelOf task-now ∙ level-charge x (settled (task s t) x .charge)
+    level-now = ap levelOf task-now ∙ level-settled (time s) (task s t) x
 
     abbrev moves : List Queue
     moves = relisted (s .levels) (levelOf (task s t)) (levelOf x) t
@@ -71,6 +71,6 @@ module _ (s : State) (k : Orderly s) where
           (λ u. levelOf (task (moved t x s) u)) level-now (λ u other. ap levelOf (task-else u other));
       slices = k .slices;
       charges = λ u. task-cases (SoundCharge moves (s .numbers .slices) u) u
-          (λ e. rw e (charge-settled (s .levels) (s .numbers .slices) (k .slices) t (task s t) x (k .charges t)))
-          (λ other. charge-kept (s .levels) (s .numbers .slices) (k .slices) t (task s t) x u (task s u) other (λ h. task-in levelOf level-none u h .0) (k .charges u));
+          (λ e. rw e (charge-settled (s .levels) (s .numbers .slices) (k .slices) (time s) t (task s t) x (k .charges t)))
+          (λ other. charge-kept (s .levels) (s .numbers .slices) (k .slices) (time s) t (task s t) x u (task s u) other (λ h. task-in levelOf level-none u h .0) (k .charges u));
     }

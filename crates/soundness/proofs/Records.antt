@@ -13,7 +13,7 @@ use Rattle.model.specs.declared.News.{News}
 use Rattle.model.specs.declared.News.the-variants.{Deleted, Bits}
 use Rattle.model.specs.Flag.{isMet}
 use Rattle.model.specs.Task.{nothing, aSleep, served, dlt, isDormant, isSuspended, isWaiting, isAsleep, isRunnable, isTimed, endless, levelOf, rowOf, ranOut, aged, told}
-use Rattle.model.specs.Task.{asleep, onSemaphore, onFlag, dormant, activated, created, withPriority, withSuspended, withWakeups, withActivations, withCharge, withRemaining, waiting, ended}
+use Rattle.model.specs.Task.{asleep, onSemaphore, onFlag, dormant, activated, created, withPriority, withSuspended, withWakeups, withActivations, withMarks, withRemaining, waiting, ended}
 use Rattle.model.specs.Test.{isWaitCode}
 use Rattle.model.specs.Sound.{SoundTask}
 use Rattle.laws.proofs.Padded.{both}
@@ -55,7 +55,7 @@ row-live x k h = waiting-live x k (λ z. omega (arith, row-waits x h))
 
 -- ---- records that wait for nothing
 pub sound-dormant : (p : ℕ) → 1 ≤ p → p ≤ 30 → SoundTask (dormant p)
-sound-dormant p low top = sound-of (dormant p) (low, top) (low, top) (omega arith) (omega arith) (omega arith) (omega arith) tt (refl, refl) (λ e. (refl, refl, refl, refl, refl, refl, refl)) (wait-none 0 0 0) ask-none
+sound-dormant p low top = sound-of (dormant p) (low, top) (low, top) (omega arith) (omega arith) (omega arith) (omega arith) tt (refl, refl) (λ e. (refl, refl, refl, refl, refl, refl, refl, refl)) (wait-none 0 0 0) ask-none
 
 pub sound-activated : (x : Task) → SoundTask x → 1 ≤ x .base → SoundTask (activated x)
 sound-activated x k made =
@@ -137,9 +137,9 @@ abbrev pub Stays : News → Task → Type 0
 Stays Deleted x = ⊥
 Stays (Bits b) x = isMet (x .wait .pattern) (x .wait .mode) b ≡ false
 
-pub stays-charge : (w : News) (x : Task) (n : ℕ) → Stays w x → Stays w (withCharge x n)
-stays-charge Deleted x n h = h
-stays-charge (Bits b) x n h = h
+pub stays-marks : (w : News) (x : Task) (n e : ℕ) → Stays w x → Stays w (withMarks x n e)
+stays-marks Deleted x n e h = h
+stays-marks (Bits b) x n e h = h
 
 pub told-stays : (w : News) (x : Task) → (rowOf (told w x) ≡ 0) ⊎ (Stays w x × (told w x ≡ x))
 unfolding told rowOf

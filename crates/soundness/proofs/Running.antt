@@ -59,7 +59,8 @@ pub record Runner (s : State) : Type 0 where
   pub top : running s ≤ 24
   pub live : 1 ≤ task s (running s) .active
   pub idle : task s (running s) .wait .kind ≡ nothing
-  -- it is first of the level of its priority
+  -- it is in a level, and first of that of its priority
+  pub listed : 1 ≤ levelOf (task s (running s))
   pub level : levelOf (task s (running s)) ≡ task s (running s) .priority
   pub first : firstOf (s .levels) (task s (running s) .priority) ≡ running s
 
@@ -79,4 +80,4 @@ runner s k some = go (best 30 1 (s .levels)) some
         let i = task-in s (sound-orderly k) levelOf level-none (running s) (l .0) in
         let r = level-live (task s (running s)) (l .0) in
         let p = level-priority (task s (running s)) (l .0) in
-        record { low = i .0; top = i .1; live = r .0; idle = r .1; level = p; first = rw p at (l .1) }
+        record { low = i .0; top = i .1; live = r .0; idle = r .1; listed = l .0; level = p; first = rw p at (l .1) }

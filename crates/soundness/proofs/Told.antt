@@ -12,18 +12,18 @@ use Rattle.model.specs.declared.State.{State}
 use Rattle.model.specs.declared.News.{News}
 use Rattle.model.specs.Row.{firstOf}
 use Rattle.model.specs.Task.{rowOf, settled, told}
-use Rattle.model.specs.State.{task, waiters, moved}
+use Rattle.model.specs.State.{task, time, waiters, moved}
 use Rattle.model.specs.Effect.{toldAll}
 use Rattle.model.specs.Test.{occ, padded}
 use Rattle.model.specs.Sound.{Sound}
 use Rattle.laws.proofs.Number.{same?}
 use Rattle.laws.proofs.Occ.{one-eq, one-ne, occ-cons, occ-none}
 use Rattle.laws.proofs.Padded.{padded-rest, first-none}
-use Rattle.laws.proofs.Record.{row-none, row-charge}
+use Rattle.laws.proofs.Record.{row-none, row-settled}
 use Rattle.soundness.proofs.Listed.{key-of, key-first, listed-in}
 use Rattle.soundness.proofs.Orderly.{sound-orderly, task-in, task-cases}
 use Rattle.soundness.proofs.Changes.{MayWait, sound-moved}
-use Rattle.soundness.proofs.Records.{WaitsAs, Stays, stays-charge, told-stays, told-live, row-live, sound-told}
+use Rattle.soundness.proofs.Records.{WaitsAs, Stays, stays-marks, told-stays, told-live, row-live, sound-told}
 
 -- ---- who may wait
 pub may-none : (s : State) (t : ℕ) (x : Task) → rowOf x ≡ 0 → MayWait s t x
@@ -83,7 +83,7 @@ module _ (w : News) (m : ℕ) (some : 1 ≤ m) where
     lives = λ u h there.
         let o = k .lives u h (omega (arith, occ-cons u t q)) in
         (o .0, cases (λ y. 1 ≤ y .active) u (λ e. omega (arith, told-live w (task s t), first .1)) (λ other. o .1));
-    holds = λ u h. cases (λ y. rowOf y ≡ m → (1 ≤ occ u q) ⊎ Stays w y) u (λ e f. inr (stays-charge w x (settled (task s t) x .charge) (here (sym (row-charge x (settled (task s t) x .charge)) ∙ f)))) (λ other f. behind u other (k .holds u h f));
+    holds = λ u h. cases (λ y. rowOf y ≡ m → (1 ≤ occ u q) ⊎ Stays w y) u (λ e f. inr (stays-marks w x (settled (time s) (task s t) x .charge) (settled (time s) (task s t) x .entered) (here (sym (row-settled (time s) (task s t) x) ∙ f)))) (λ other f. behind u other (k .holds u h f));
   }
     where
       x : Task
@@ -98,7 +98,7 @@ module _ (w : News) (m : ℕ) (some : 1 ≤ m) where
           (λ (z : Stays w (task s t) × (x ≡ task s t)). may-same s (k .sound) t x (ap rowOf (z .1), ap (λ (y : Task). y .wait .pattern) (z .1), ap (λ (y : Task). y .wait .mode) (z .1)))
           (told-stays w (task s t))
 
-      cases : (P : Task → Type 0) (u : ℕ) → (u ≡ t → P (settled (task s t) x)) → ((u ≡ t → ⊥) → P (task s u)) → P (task (moved t x s) u)
+      cases : (P : Task → Type 0) (u : ℕ) → (u ≡ t → P (settled (time s) (task s t) x)) → ((u ≡ t → ⊥) → P (task s u)) → P (task (moved t x s) u)
       cases = task-cases s (sound-orderly (k .sound)) t x (omega arith) (first .0)
 
       here : rowOf x ≡ m → Stays w x

@@ -18,10 +18,10 @@ use Rattle.laws.proofs.Waits.{SoundAsk, WaitOf, Resting, wait-of, ask-of, sound
 use Rattle.laws.proofs.Says.{Says, says-as, says-same, says-eq, says-le, says-not, says-and, says-implies, says-cond, says-within}
 
 -- ---- all zeros
-blank : (base priority active suspended wakeups activations code spare : ℕ) (wait : Wait) (handed charge : ℕ)
-    → base ≡ 0 → priority ≡ 0 → active ≡ 0 → suspended ≡ 0 → wakeups ≡ 0 → activations ≡ 0 → code ≡ 0 → spare ≡ 0 → wait ≡ noWait → handed ≡ 0 → charge ≡ 0
-    → _≡_ {A = Task} (record { base = base; priority = priority; active = active; suspended = suspended; wakeups = wakeups; activations = activations; code = code; spare = spare; wait = wait; handed = handed; charge = charge }) noTask
-blank b p a s u v c n w h d eb ep ea es eu ev ec en ew eh ed = cc
+blank : (base priority active suspended wakeups activations code spare : ℕ) (wait : Wait) (handed charge entered : ℕ)
+    → base ≡ 0 → priority ≡ 0 → active ≡ 0 → suspended ≡ 0 → wakeups ≡ 0 → activations ≡ 0 → code ≡ 0 → spare ≡ 0 → wait ≡ noWait → handed ≡ 0 → charge ≡ 0 → entered ≡ 0
+    → _≡_ {A = Task} (record { base = base; priority = priority; active = active; suspended = suspended; wakeups = wakeups; activations = activations; code = code; spare = spare; wait = wait; handed = handed; charge = charge; entered = entered }) noTask
+blank b p a s u v c n w h d t eb ep ea es eu ev ec en ew eh ed et = cc
 
 unwaiting : (kind object mode spare remaining pattern : ℕ) → kind ≡ 0 → object ≡ 0 → mode ≡ 0 → spare ≡ 0 → remaining ≡ 0 → pattern ≡ 0
     → _≡_ {A = Wait} (record { kind = kind; object = object; mode = mode; spare = spare; remaining = remaining; pattern = pattern }) noWait
@@ -39,20 +39,20 @@ says-no-wait w = record {
 pub says-blank : (x : Task) → Says (isBlank x) (x ≡ noTask)
 says-blank x = record {
   yields = λ t. let p = zeros .yields t in let q = p .1 .1 .1 .1 in
-      blank (x .base) (x .priority) (x .active) (x .suspended) (x .wakeups) (x .activations) (x .code) (x .spare) (x .wait) (x .handed) (x .charge)
-      (p .0) (p .1 .0) (p .1 .1 .0) (p .1 .1 .1 .0) (q .0) (q .1 .0) (q .1 .1 .0) (q .1 .1 .1 .0) (q .1 .1 .1 .1 .0) (q .1 .1 .1 .1 .1 .0) (q .1 .1 .1 .1 .1 .1);
+      blank (x .base) (x .priority) (x .active) (x .suspended) (x .wakeups) (x .activations) (x .code) (x .spare) (x .wait) (x .handed) (x .charge) (x .entered)
+      (p .0) (p .1 .0) (p .1 .1 .0) (p .1 .1 .1 .0) (q .0) (q .1 .0) (q .1 .1 .0) (q .1 .1 .1 .0) (q .1 .1 .1 .1 .0) (q .1 .1 .1 .1 .1 .0) (q .1 .1 .1 .1 .1 .1 .0) (q .1 .1 .1 .1 .1 .1 .1);
   tests = λ e. subst (λ (y : Task). So (isBlank y)) (sym e) tt;
 }
   where
-    zeros : Says (isBlank x) ((x .base ≡ 0) × ((x .priority ≡ 0) × ((x .active ≡ 0) × ((x .suspended ≡ 0) × ((x .wakeups ≡ 0) × ((x .activations ≡ 0) × ((x .code ≡ 0) × ((x .spare ≡ 0) × ((x .wait ≡ noWait) × ((x .handed ≡ 0) × (x .charge ≡ 0)))))))))))
-    zeros = says-and says-eq (says-and says-eq (says-and says-eq (says-and says-eq (says-and says-eq (says-and says-eq (says-and says-eq (says-and says-eq (says-and (says-no-wait (x .wait)) (says-and says-eq says-eq)))))))))
+    zeros : Says (isBlank x) ((x .base ≡ 0) × ((x .priority ≡ 0) × ((x .active ≡ 0) × ((x .suspended ≡ 0) × ((x .wakeups ≡ 0) × ((x .activations ≡ 0) × ((x .code ≡ 0) × ((x .spare ≡ 0) × ((x .wait ≡ noWait) × ((x .handed ≡ 0) × ((x .charge ≡ 0) × (x .entered ≡ 0))))))))))))
+    zeros = says-and says-eq (says-and says-eq (says-and says-eq (says-and says-eq (says-and says-eq (says-and says-eq (says-and says-eq (says-and says-eq (says-and (says-no-wait (x .wait)) (says-and says-eq (says-and says-eq says-eq))))))))))
 
 -- ---- one that is dormant, and what one waits for
 says-resting : (x : Task) → Says (isResting x) (Resting x)
 says-resting x = says-as
-    (λ p. let q = p .1 .1 .1 .1 in (p .0, p .1 .0, p .1 .1 .0, p .1 .1 .1 .0, q .0, q .1 .0, q .1 .1))
-    (λ p. (p .0, (p .1, (p .2, (p .3, (p .4, (p .5, p .6)))))))
-    (says-and says-eq (says-and says-eq (says-and says-eq (says-and says-eq (says-and says-eq (says-and says-eq says-eq))))))
+    (λ p. let q = p .1 .1 .1 .1 in (p .0, p .1 .0, p .1 .1 .0, p .1 .1 .1 .0, q .0, q .1 .0, q .1 .1 .0, q .1 .1 .1))
+    (λ p. (p .0, (p .1, (p .2, (p .3, (p .4, (p .5, (p .6, p .7))))))))
+    (says-and says-eq (says-and says-eq (says-and says-eq (says-and says-eq (says-and says-eq (says-and says-eq (says-and says-eq says-eq)))))))
 
 -- what the test says of a wait's object, in its own order
 abbrev Object : Task → Type 0

@@ -22,7 +22,7 @@ use Rattle.model.specs.declared.Call.{Call}
 use Rattle.model.specs.Row.{firstOf}
 use Rattle.model.specs.Flag.{flagRow}
 use Rattle.model.specs.Task.{served, released, waiting, ended}
-use Rattle.model.specs.State.{fresh, task, count, time, maximum, waiters, running, moved, counted, flagged, sliced, recharged, withTime}
+use Rattle.model.specs.State.{fresh, task, count, time, maximum, waiters, running, moved, counted, flagged, sliced, marked, withTime}
 use Rattle.model.specs.Code.{number, isNegative}
 use Rattle.model.specs.Effect.{stopped, toldAll, deleted, toldFlag, charged, ticked, carried}
 use Rattle.model.specs.Call.{step, call}
@@ -41,7 +41,7 @@ use Rattle.ways.proofs.Done.{Made, Takes, atOnce, byPoll, Done, Way, refuses, a
 use Rattle.ways.proofs.Done.{Done as Ways}
 use Rattle.ways.proofs.Ways.{way}
 use Rattle.turns.proofs.Still.{Charged, only-charged}
-use Rattle.soundness.proofs.Moved.{numbers-moved, numbers-stopped, numbers-told, numbers-lapsed}
+use Rattle.soundness.proofs.Folds.{numbers-moved, numbers-stopped, numbers-told, numbers-lapsed}
 use Rattle.turns.proofs.Handed.{one-is-served, nobody-is-served}
 
 -- what the theorem keeps from call to call, of a semaphore with count c and maximum v: its account is even, and none is kept of one
@@ -142,7 +142,7 @@ module _ (s : State) (k : Sound s) (m : ℕ) (t : Tally) (a : AccountIn s m t) w
   after-done (Ways.exits runs) = numbers (stopped (running s) s) (numbers-stopped s (running s)) a
   after-done (Ways.terminates u low top made) = numbers (stopped u s) (numbers-stopped s u) a
   after-done (Ways.forces u low top waits) = moving u (ended (task s u) released 0)
-  after-done (Ways.slices l v low top) = stays (sliced l v s) (unfold recharged in refl) (unfold recharged in refl) a
+  after-done (Ways.slices l v low top) = stays (sliced l v s) (unfold marked in refl) (unfold marked in refl) a
   after-done (Ways.serves n made first) = serving n made first
   after-done (Ways.raises n made free less) = raising n made free
   after-done (Ways.deletes n made) = deleting n (made .top)

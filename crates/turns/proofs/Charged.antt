@@ -13,9 +13,9 @@ use borrow.Author.Tests.{eq-eqb, ne-eqb}
 use Rattle.model.specs.declared.Task.{Task}
 use Rattle.model.specs.declared.State.{State}
 use Rattle.model.specs.Row.{place, first, turned, firstOf}
-use Rattle.model.specs.Task.{noTask, levelOf, withCharge}
-use Rattle.model.specs.State.{task, slice, level, running, sliced, recharged, rotated}
-use Rattle.model.specs.Effect.{chargedIn, charged}
+use Rattle.model.specs.Task.{noTask, levelOf, withMarks}
+use Rattle.model.specs.State.{task, slice, level, running, sliced, marked, recharged, rotated}
+use Rattle.model.specs.Effect.{turnedAt, chargedIn, charged}
 use Rattle.model.specs.Test.{one, occ}
 use Rattle.model.specs.Sound.{Sound}
 use Rattle.laws.proofs.Number.{same?}
@@ -55,43 +55,46 @@ module _ (s : State) (k : Sound s) (l t : ℕ) (h : 1 ≤ l) (e : levelOf (task 
   charged-own some behind = rw (ne-eqb (slice s l) 0 (λ z. omega arith)) (go (ltb (task s a .charge + 1) (slice s l)))
     where
       now : (n : ℕ) → task (recharged a n s) a .charge ≡ n
-      now n = unfold recharged in ap (λ (y : Task). y .charge)
-          (getD-set-same (s .tasks) a (withCharge (task s a) n) noTask (omega (arith, k .tasks#, task-in s order levelOf level-none a (omega (arith, first-level l t h top s order e)))))
+      now n = unfold marked in ap (λ (y : Task). y .charge)
+          (getD-set-same (s .tasks) a (withMarks (task s a) n (task s a .entered)) noTask (omega (arith, k .tasks#, task-in s order levelOf level-none a (omega (arith, first-level l t h top s order e)))))
 
-      go : (b : Bool) → Nearer l t s (cond b (recharged a (task s a .charge + 1) s) (rotated l (recharged a 0 s))) 1
-      go true = let c = now (task s a .charge + 1) in unfold recharged in record { steady = refl; falls = omega (arith, c) }
-      go false = unfold recharged rotated in record {
+      go : (b : Bool) → Nearer l t s (cond b (recharged a (task s a .charge + 1) s) (rotated l (marked a 0 (turnedAt l a s) s))) 1
+      go true = let c = now (task s a .charge + 1) in unfold marked in record { steady = refl; falls = omega (arith, c) }
+      go false = unfold marked rotated in record {
         steady = refl;
         falls = rw (row-withRow-same (s .levels) l (turned (level s l)) (omega (arith, top, k .levels .sized)))
             (omega (arith, used-below l t h top s order e some, mul-le-mul-right (slice s l) (place-turned (level s l) t low (omega (arith, listed)) (λ z. omega (arith, first-place (level s l) t z)))));
       }
 
   -- the charge of another leaves the first's
-  spares : (u n : ℕ) → (levelOf (task s u) ≡ l → ⊥) → task (recharged u n s) a .charge ≡ task s a .charge
-  spares u n other = unfold recharged in ap (λ (y : Task). y .charge)
-      (getD-set-other (s .tasks) u a (withCharge (task s u) n) noTask (λ z. other (rw z at (first-level l t h top s order e))))
+  spares : (u n d : ℕ) → (levelOf (task s u) ≡ l → ⊥) → task (marked u n d s) a .charge ≡ task s a .charge
+  spares u n d other = unfold marked in ap (λ (y : Task). y .charge)
+      (getD-set-other (s .tasks) u a (withMarks (task s u) n d) noTask (λ z. other (rw z at (first-level l t h top s order e))))
 
   -- where a task of another level is charged
   charged-other : (j u : ℕ) → levelOf (task s u) ≡ j → (j ≡ l → ⊥) → Nearer l t s (chargedIn j u s) 0
   unfolding chargedIn
   charged-other j u f other = go (eqb (slice s j) 0) (ltb (task s u .charge + 1) (slice s j))
     where
-      kept : (n : ℕ) → task (recharged u n s) a .charge ≡ task s a .charge
-      kept n = spares u n (λ z. other (sym f ∙ z))
+      kept : (n d : ℕ) → task (marked u n d s) a .charge ≡ task s a .charge
+      kept n d = spares u n d (λ z. other (sym f ∙ z))
 
-      turned-row : level (rotated j (recharged u 0 s)) l ≡ level s l
-      turned-row = unfold recharged rotated in row-withRow-other (s .levels) j (turned (level s j)) l (λ z. other (sym z))
+      turn : State
+      turn = rotated j (marked u 0 (turnedAt j u s) s)
 
-      turned-used : used (rotated j (recharged u 0 s)) l ≡ used s l
-      turned-used = ap (λ q. task (rotated j (recharged u 0 s)) (first q) .charge) turned-row ∙ (unfold rotated in kept 0)
+      turned-row : level turn l ≡ level s l
+      turned-row = unfold marked rotated in row-withRow-other (s .levels) j (turned (level s j)) l (λ z. other (sym z))
 
-      turned-place : place (level (rotated j (recharged u 0 s)) l) t ≡ place (level s l) t
+      turned-used : used turn l ≡ used s l
+      turned-used = ap (λ q. task turn (first q) .charge) turned-row ∙ (unfold rotated in kept 0 (turnedAt j u s))
+
+      turned-place : place (level turn l) t ≡ place (level s l) t
       turned-place = ap (λ q. place q t) turned-row
 
-      go : (b c : Bool) → Nearer l t s (cond b s (cond c (recharged u (task s u .charge + 1) s) (rotated j (recharged u 0 s)))) 0
+      go : (b c : Bool) → Nearer l t s (cond b s (cond c (recharged u (task s u .charge + 1) s) turn)) 0
       go true c = record { steady = refl; falls = omega arith }
-      go false true = let z = kept (task s u .charge + 1) in unfold recharged in record { steady = refl; falls = omega (arith, z) }
-      go false false = record { steady = unfold recharged rotated in refl; falls = rw (turned-used, turned-place) (omega arith) }
+      go false true = let z = kept (task s u .charge + 1) (task s u .entered) in unfold marked in record { steady = refl; falls = omega (arith, z) }
+      go false false = record { steady = unfold marked rotated in refl; falls = rw (turned-used, turned-place) (omega arith) }
 
   -- so who is not first does not run
   pub runs-not : 1 ≤ place (level s l) t → running s ≡ t → ⊥
@@ -130,6 +133,6 @@ module _ (s : State) (k : Sound s) (l t : ℕ) (h : 1 ≤ l) (e : levelOf (task 
 
   pub nearer-sliced : (j v : ℕ) → (j ≡ l → ⊥) → Nearer l t s (sliced j v s) 0
   nearer-sliced j v other = record {
-    steady = unfold sliced recharged in getD-set-other (s .numbers .slices) j l v 0 (λ i. other (sym i));
-    falls = unfold sliced recharged in omega (arith, spares (firstOf (s .levels) j) 0 (first-other j other));
+    steady = unfold sliced marked in getD-set-other (s .numbers .slices) j l v 0 (λ i. other (sym i));
+    falls = unfold sliced marked in omega (arith, spares (firstOf (s .levels) j) 0 (task s (firstOf (s .levels) j) .entered) (first-other j other));
   }

@@ -13,7 +13,7 @@ use Rattle.model.specs.declared.Task.{Task}
 use Rattle.model.specs.declared.State.{State}
 use Rattle.model.specs.declared.News.the-variants.{Deleted}
 use Rattle.model.specs.Task.{nothing, aSleep, isTimed, ranOut, timeout, dlt, rowOf, dormant, activated, ended, withRemaining, settled, aged, told}
-use Rattle.model.specs.State.{task, moved}
+use Rattle.model.specs.State.{task, time, moved}
 use Rattle.model.specs.Code.{waitNumber}
 use Rattle.model.specs.Effect.{stopped, toldAll, lapsed}
 use Rattle.model.specs.Test.{occ, padded}
@@ -31,13 +31,13 @@ lapsed-past zero i s t h = refl
 lapsed-past (suc n) i s t h =
     lapsed-past n (suc i) (moved i (aged (task s i)) s) t (omega arith) ∙ task-kept s i (aged (task s i)) t (λ z. omega arith)
 
-pub lapsed-at : (n i : ℕ) (s : State) (t : ℕ) → t < length (s .tasks) → i ≤ t → t < n + i → task (lapsed n i s) t ≡ settled (task s t) (aged (task s t))
-unfolding lapsed
+pub lapsed-at : (n i : ℕ) (s : State) (t : ℕ) → t < length (s .tasks) → i ≤ t → t < n + i → task (lapsed n i s) t ≡ settled (time s) (task s t) (aged (task s t))
+unfolding lapsed moved
 lapsed-at zero i s t long low top = absurd (omega arith)
 lapsed-at (suc n) i s t long low top = ⊎-elim
     (λ (e : i ≡ t). lapsed-past n (suc i) (moved i (aged (task s i)) s) t (omega arith) ∙ ap (λ j. task (moved j (aged (task s j)) s) t) e ∙ task-moved s t (aged (task s t)) long)
     (λ (apart : i ≡ t → ⊥). lapsed-at n (suc i) (moved i (aged (task s i)) s) t (rw (tasks-moved s i (aged (task s i))) long) (omega arith) (omega arith)
-    ∙ ap (λ y. settled y (aged y)) (task-kept s i (aged (task s i)) t apart))
+    ∙ ap (λ y. settled (time s) y (aged y)) (task-kept s i (aged (task s i)) t apart))
     (same? i t)
 
 -- who waits on a semaphore or a flag waits on, or has run out of time
@@ -85,6 +85,6 @@ ended-at (u ∷ q) s t some long ends w = ⊎-elim
     here z (inr there) = absurd (omega (arith, first-none (u ∷ q) ends z t some))
 
     on : (u ≡ t) ⊎ (u ≡ t → ⊥) → Ended s t (waitNumber dlt) ⊎ (1 ≤ occ t (u ∷ q)) → Ended s₁ t (waitNumber dlt) ⊎ (1 ≤ occ t q)
-    on (inl e) w = let z : task s₁ t ≡ settled (task s t) (ended (task s t) dlt 0) = ap (λ i. task (moved i (ended (task s i) dlt 0) s) t) e ∙ task-moved s t (ended (task s t) dlt 0) long in inl (record { over = rw z; code = rw z })
+    on (inl e) w = let z : task s₁ t ≡ settled (time s) (task s t) (ended (task s t) dlt 0) = ap (λ i. task (moved i (ended (task s i) dlt 0) s) t) e ∙ task-moved s t (ended (task s t) dlt 0) long in inl (record { over = rw z; code = rw z })
     on (inr apart) (inl done) = let z = task-kept s u (ended (task s u) dlt 0) t apart in inl (record { over = rw z (done .over); code = rw z (done .code) })
     on (inr apart) (inr there) = inr (omega (arith, occ-cons t u q, one-ne u t apart))

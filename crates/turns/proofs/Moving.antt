@@ -15,7 +15,7 @@ use Rattle.model.specs.Sound.{at}
 use Rattle.model.specs.Test.{occ}
 use Rattle.laws.proofs.Number.{same?}
 use Rattle.laws.proofs.Padded.{first-none}
-use Rattle.laws.proofs.Record.{level-none, level-charge}
+use Rattle.laws.proofs.Record.{level-none, level-marks}
 use Rattle.laws.proofs.Relisted.{relisted-kept, row-relisted-from}
 use Rattle.soundness.proofs.Listed.{key-first, listed-in, first-relisted}
 use Rattle.soundness.proofs.Orderly.{Orderly, task-in, task-now, task-else, orderly-moved}
@@ -112,7 +112,7 @@ module _ (l t : ℕ) (h : 1 ≤ l) (top : l ≤ 30) where
 
   pub in-level : Steady levelOf l t Nears
   in-level = record {
-    uncharged = level-charge;
+    unmarked = level-marks;
     same = λ s e k v. (k, record { steady = refl; falls = omega arith });
     then = λ a b k v. let p = a k v in let q = b (p .0) (rw (p .1 .steady) v) in (q .0, nearer-then (p .1) (q .1));
     moves = λ s u x some most e keeps k v. (orderly-moved s k u x some most, nearer-moved s k e u x some most keeps v);

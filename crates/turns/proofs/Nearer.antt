@@ -21,7 +21,7 @@ use Rattle.model.specs.Effect.{stopped, toldAll, deleted, toldFlag, charged, ti
 use Rattle.model.specs.Test.{one}
 use Rattle.model.specs.Sound.{Sound}
 use Rattle.laws.proofs.Occ.{one-not}
-use Rattle.laws.proofs.Record.{level-charge, flag-row}
+use Rattle.laws.proofs.Record.{level-marks, level-settled, flag-row}
 use Rattle.soundness.proofs.Orderly.{Orderly, sound-orderly}
 use Rattle.soundness.proofs.Changes.{sound-withTime}
 use Rattle.soundness.proofs.Running.{runner}
@@ -94,10 +94,10 @@ module _ (s : State) (k : Sound s) (l t : ℕ) (h : 1 ≤ l) (e : levelOf (task 
       a = nearer-charged (withTime n s) (sound-withTime s n k) l t h e some behind
 
       after : Sound z
-      after = sound-charged (withTime n s) (sound-withTime s n k) (running s) (λ runs. let r = runner s k runs in (r .level, r .first))
+      after = sound-charged (withTime n s) (sound-withTime s n k) (running s) (λ runs. let r = runner s k runs in (r .listed, r .level, r .first))
 
       stands : levelOf (task z t) ≡ l
-      stands = only-charged (withTime n s) (running s) .records (λ y. levelOf y ≡ l) t (λ c. level-charge (task s t) c ∙ e)
+      stands = only-charged (withTime n s) (running s) .records (λ y. levelOf y ≡ l) t (λ c d. level-marks (task s t) c d ∙ e)
 
       aging : levelOf (aged (task z t)) ≡ l
       aging = level-aged (task z t) (omega (arith, stands)) ∙ stands
@@ -105,7 +105,7 @@ module _ (s : State) (k : Sound s) (l t : ℕ) (h : 1 ≤ l) (e : levelOf (task 
   -- its own record, if it is the one that changes, keeps its level
   staying : (u : ℕ) (x : Task) → (1 ≤ u) × (u ≤ 24) → levelOf (task (moved u x s) t) ≡ l → 1 ≤ slice s l → Nearer l t s (moved u x s) 0
   staying u x r after = moving u x (r .0) (r .1)
-      (λ z. sym (level-charge x (settled (task s t) x .charge)) ∙ ap levelOf (sym (ap (λ i. task (moved i x s) t) z ∙ task-moved s t x (long s k l t h e))) ∙ after)
+      (λ z. sym (level-settled (time s) (task s t) x) ∙ ap levelOf (sym (ap (λ i. task (moved i x s) t) z ∙ task-moved s t x (long s k l t h e))) ∙ after)
 
   -- what a tick charged to l counts for
   abbrev counts : Kind → ℕ

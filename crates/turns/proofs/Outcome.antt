@@ -18,7 +18,7 @@ use Rattle.model.specs.declared.Code.the-variants.{NoErr}
 use Rattle.model.specs.declared.Effect.the-variants.{Moves, Deletes, Ticks, Tells}
 use Rattle.model.specs.Row.{place, first, left, row, firstOf, relisted}
 use Rattle.model.specs.Task.{nothing, served, timeout, dlt, released, rowOf, waiting, ended, settled, aged}
-use Rattle.model.specs.State.{task, count, time, maximum, waiters, running, moved, counted, flagged, sliced, recharged, withTime}
+use Rattle.model.specs.State.{task, count, time, maximum, waiters, running, moved, counted, flagged, sliced, marked, withTime}
 use Rattle.model.specs.Code.{waitNumber, isRefusal}
 use Rattle.model.specs.Effect.{toldAll, deleted, toldFlag, charged, lapsed, ticked, carried}
 use Rattle.model.specs.Test.{one, occ}
@@ -26,7 +26,7 @@ use Rattle.model.specs.Sound.{Sound}
 use Rattle.laws.proofs.Number.{same?}
 use Rattle.laws.proofs.Relisted.{row-relisted-from}
 use Rattle.laws.proofs.Occ.{one-eq, one-ne, one-not}
-use Rattle.laws.proofs.Record.{row-waits, row-charge, flag-row}
+use Rattle.laws.proofs.Record.{row-waits, row-marks, flag-row}
 use Rattle.soundness.proofs.Listed.{key-of, listed-in}
 use Rattle.soundness.proofs.Told.{waiter-in, first-waits, queued-in, no-waiter}
 use Rattle.soundness.proofs.Running.{runner}
@@ -34,7 +34,7 @@ use Rattle.soundness.proofs.Changed.{change-row}
 use Rattle.ways.specs.Kind as Kinds
 use Rattle.ways.specs.Kind.{Kind, forcedRelease, release, deletion, isReleaseOf}
 use Rattle.ways.specs.Entry.{Entry}
-use Rattle.soundness.proofs.Moved.{task-moved, task-recharged}
+use Rattle.soundness.proofs.Moved.{task-moved, task-marked}
 use Rattle.turns.specs.Statements.{Ended}
 use Rattle.turns.proofs.Places.{place-served}
 use Rattle.ways.proofs.Done.{Done, Way, refuses, accepts}
@@ -44,7 +44,7 @@ use Rattle.turns.proofs.Still.{Charged, only-charged, Steady, Keyed, St
 
 on-waits : Keyed rowOf (λ s. s .waits)
 unfolding moved
-on-waits = record { relists = λ s u x. refl; unlisted = row-charge }
+on-waits = record { relists = λ s u x. refl; unmarked = row-marks }
 
 -- ---- what a call does to t, which waits on m
 pub data Outcome (s : State) (m t : ℕ) (k : Kind) (c : Code) (x : Effect) : Type 0 where
@@ -87,7 +87,7 @@ module _ (s : State) (k : Sound s) (m t : ℕ) (h : 1 ≤ m) (top : m ≤ 12) (e
   -- its own wait ends
   over : (u v : ℕ) → u ≡ t → Ended (moved u (ended (task s u) v 0) s) t (waitNumber v)
   over u v z =
-      let y : task (moved u (ended (task s u) v 0) s) t ≡ settled (task s t) (ended (task s t) v 0) = ap (λ i. task (moved i (ended (task s i) v 0) s) t) z ∙ task-moved s t (ended (task s t) v 0) long in
+      let y : task (moved u (ended (task s u) v 0) s) t ≡ settled (time s) (task s t) (ended (task s t) v 0) = ap (λ i. task (moved i (ended (task s i) v 0) s) t) z ∙ task-moved s t (ended (task s t) v 0) long in
       record { over = rw y; code = rw y }
 
   -- the first of its queue is served
@@ -151,7 +151,7 @@ module _ (s : State) (k : Sound s) (m t : ℕ) (h : 1 ≤ m) (top : m ≤ 12) (e
       kept = only-charged (withTime ((time s + 1) % 2 ^ 32) s) (running s)
 
       row : rowOf (task z t) ≡ rowOf (task s t)
-      row = kept .records (λ y. rowOf y ≡ rowOf (task s t)) t (row-charge (task s t))
+      row = kept .records (λ y. rowOf y ≡ rowOf (task s t)) t (row-marks (task s t))
 
       at : rowOf (task z t) ≡ m
       at = row ∙ e
@@ -159,7 +159,7 @@ module _ (s : State) (k : Sound s) (m t : ℕ) (h : 1 ≤ m) (top : m ≤ 12) (e
       go : (rowOf (aged (task z t)) ≡ m) ⊎ ((aged (task z t) .wait .kind ≡ nothing) × (aged (task z t) .code ≡ timeout)) → Outcome s m t Kinds.tick NoErr Ticks
       go (inl w) = on (waiting-on .then (untouched z row (kept .waits)) (still-lapsed waiting-on 24 1 z (omega arith) (omega arith) (λ _. w) at)) refl
       go (inr w) =
-          let y : task (lapsed 24 1 z) t ≡ settled (task z t) (aged (task z t)) = lapsed-at 24 1 z t (omega (arith, kept .tasks#, long)) low (omega (arith, waiter-in s k t (omega arith))) in
+          let y : task (lapsed 24 1 z) t ≡ settled (time z) (task z t) (aged (task z t)) = lapsed-at 24 1 z t (omega (arith, kept .tasks#, long)) low (omega (arith, waiter-in s k t (omega arith))) in
           lapses tt refl (record { over = rw y (w .0); code = rw y (ap waitNumber (w .1)) })
 
   -- a record changes, and with it no wait on a semaphore
@@ -182,7 +182,7 @@ module _ (s : State) (k : Sound s) (m t : ℕ) (h : 1 ≤ m) (top : m ≤ 12) (e
       (λ (z : u ≡ t). forced tt (ap forcedRelease z) (over u released z))
       (λ (apart : u ≡ t → ⊥). on (moving u (ended (task s u) released 0) (λ z. absurd (apart z))) refl)
       (same? u t)
-  outcome-done (Ways.slices l v some most) = on (untouched (sliced l v s) (task-recharged (λ y. rowOf y ≡ rowOf (task s t)) s (firstOf (s .levels) l) 0 t (row-charge (task s t))) (unfold recharged in refl)) refl
+  outcome-done (Ways.slices l v some most) = on (untouched (sliced l v s) (task-marked (λ y. rowOf y ≡ rowOf (task s t)) s (firstOf (s .levels) l) 0 (task s (firstOf (s .levels) l) .entered) t (row-marks (task s t))) (unfold marked in refl)) refl
   outcome-done (Ways.serves n made some) = serving n (made .top) some
   outcome-done (Ways.raises n made free less) =
       on (untouched (counted n (count s n + 1) (maximum s n) s) refl refl) (one-ne n m (λ y. no-waiter s k m h (omega arith) (rw y at free) t e))

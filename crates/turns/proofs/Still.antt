@@ -15,31 +15,31 @@ use Rattle.model.specs.declared.Queue.{Queue}
 use Rattle.model.specs.declared.State.{State}
 use Rattle.model.specs.Row.{place, row, relisted}
 use Rattle.model.specs.declared.News.{News}
-use Rattle.model.specs.Task.{dormant, activated, withCharge, settled, aged, told}
-use Rattle.model.specs.State.{task, slice, moved, recharged, rotated}
-use Rattle.model.specs.Effect.{stopped, toldAll, chargedIn, charged, lapsed}
+use Rattle.model.specs.Task.{dormant, activated, withMarks, settled, aged, told}
+use Rattle.model.specs.State.{task, slice, time, moved, marked, recharged, rotated}
+use Rattle.model.specs.Effect.{stopped, toldAll, turnedAt, chargedIn, charged, lapsed}
 use Rattle.model.specs.Test.{occ}
 use Rattle.laws.proofs.Number.{same?, below?}
 use Rattle.laws.proofs.Occ.{occ-cons, one-eq}
-use Rattle.soundness.proofs.Moved.{task-kept, task-moved, task-recharged}
+use Rattle.soundness.proofs.Moved.{task-kept, task-moved, task-marked}
 use Rattle.turns.proofs.Places.{place-relisted}
 
 -- ---- the record of t after a move
 -- what holds of its own new record, and of its old one, holds of its record
-pub task-either : (P : Task → Type 0) (s : State) (u : ℕ) (x : Task) (t : ℕ) → (u ≡ t → P (settled (task s t) x)) → P (task s t) → P (task (moved u x s) t)
+pub task-either : (P : Task → Type 0) (s : State) (u : ℕ) (x : Task) (t : ℕ) → (u ≡ t → P (settled (time s) (task s t) x)) → P (task s t) → P (task (moved u x s) t)
 unfolding moved
 task-either P s u x t here else = ⊎-elim
     (λ (e : u ≡ t). ⊎-elim
     (λ (h : t < length (s .tasks)). subst P (sym (ap (λ i. task (moved i x s) t) e ∙ task-moved s t x h)) (here e))
-    (λ (h : length (s .tasks) ≤ t). rw (set-out (s .tasks) u (settled (task s u) x) (omega arith)) else)
+    (λ (h : length (s .tasks) ≤ t). rw (set-out (s .tasks) u (settled (time s) (task s u) x) (omega arith)) else)
     (below? t (length (s .tasks))))
     (λ (apart : u ≡ t → ⊥). subst P (sym (task-kept s u x t apart)) else)
     (same? u t)
 
--- a tick's charge changes charges alone, and the order of one level
+-- a tick's charge changes marks alone, and the order of one level
 pub record Charged (s s′ : State) : Type 1 where
   pub tasks# : length (s′ .tasks) ≡ length (s .tasks)
-  pub records : (P : Task → Type 0) (t : ℕ) → ((c : ℕ) → P (withCharge (task s t) c)) → P (task s′ t)
+  pub records : (P : Task → Type 0) (t : ℕ) → ((c e : ℕ) → P (withMarks (task s t) c e)) → P (task s′ t)
   pub waits : s′ .waits ≡ s .waits
   pub counts : s′ .numbers .counts ≡ s .numbers .counts
   pub maxima : s′ .numbers .maxima ≡ s .numbers .maxima
@@ -52,36 +52,36 @@ only-charged s run = go (eqb run 0) (eqb (slice s l) 0) (ltb (task s run .charge
     l = task s run .priority
 
     nothing : Charged s s
-    nothing = record { tasks# = refl; records = λ P t holds. holds (task s t .charge); waits = refl; counts = refl; maxima = refl }
+    nothing = record { tasks# = refl; records = λ P t holds. holds (task s t .charge) (task s t .entered); waits = refl; counts = refl; maxima = refl }
 
-    one : (n : ℕ) → Charged s (recharged run n s)
-    one n = record {
-      tasks# = unfold recharged in length-set (s .tasks) run (withCharge (task s run) n);
-      records = λ P t. task-recharged P s run n t;
-      waits = unfold recharged in refl;
-      counts = unfold recharged in refl;
-      maxima = unfold recharged in refl;
+    one : (n e : ℕ) → Charged s (marked run n e s)
+    one n e = record {
+      tasks# = unfold marked in length-set (s .tasks) run (withMarks (task s run) n e);
+      records = λ P t. task-marked P s run n e t;
+      waits = unfold marked in refl;
+      counts = unfold marked in refl;
+      maxima = unfold marked in refl;
     }
 
-    turned : Charged s (rotated l (recharged run 0 s))
-    turned = unfold rotated in let a = one 0 in record { tasks# = a .tasks#; records = a .records; waits = a .waits; counts = a .counts; maxima = a .maxima }
+    turned : Charged s (rotated l (marked run 0 (turnedAt l run s) s))
+    turned = unfold rotated in let a = one 0 (turnedAt l run s) in record { tasks# = a .tasks#; records = a .records; waits = a .waits; counts = a .counts; maxima = a .maxima }
 
-    go : (a b c : Bool) → Charged s (cond a s (cond b s (cond c (recharged run (task s run .charge + 1) s) (rotated l (recharged run 0 s)))))
+    go : (a b c : Bool) → Charged s (cond a s (cond b s (cond c (recharged run (task s run .charge + 1) s) (rotated l (marked run 0 (turnedAt l run s) s)))))
     go true b c = nothing
     go false true c = nothing
-    go false false true = one (task s run .charge + 1)
+    go false false true = one (task s run .charge + 1) (task s run .entered)
     go false false false = turned
 
 -- ---- a key, and a relation that holds through any moves of tasks that let t keep its key
 pub record Steady (key : Task → ℕ) (l t : ℕ) (R : State → State → Type 0) : Type 0 where
-  pub uncharged : (x : Task) (n : ℕ) → key (withCharge x n) ≡ key x
+  pub unmarked : (x : Task) (n e : ℕ) → key (withMarks x n e) ≡ key x
   pub same : (s : State) → key (task s t) ≡ l → R s s
   pub then : {s₁ s₂ s₃ : State} → R s₁ s₂ → R s₂ s₃ → R s₁ s₃
   pub moves : (s : State) (u : ℕ) (x : Task) → 1 ≤ u → u ≤ 24 → key (task s t) ≡ l → (u ≡ t → key x ≡ l) → R s (moved u x s)
 
 module _ {key : Task → ℕ} {l t : ℕ} {R : State → State → Type 0} (steady : Steady key l t R) where
   key-moved : (s : State) (u : ℕ) (x : Task) → key (task s t) ≡ l → (u ≡ t → key x ≡ l) → key (task (moved u x s) t) ≡ l
-  key-moved s u x e keeps = task-either (λ y. key y ≡ l) s u x t (λ z. steady .uncharged x (settled (task s t) x .charge) ∙ keeps z) e
+  key-moved s u x e keeps = task-either (λ y. key y ≡ l) s u x t (λ z. steady .unmarked x (settled (time s) (task s t) x .charge) (settled (time s) (task s t) x .entered) ∙ keeps z) e
 
   -- another stops
   pub still-stopped : (s : State) (u : ℕ) → 1 ≤ u → u ≤ 24 → (u ≡ t → ⊥) → key (task s t) ≡ l → R s (stopped u s)
@@ -126,7 +126,7 @@ module _ {key : Task → ℕ} {l t : ℕ} {R : State → State → Type 0} (stea
 -- ---- a key and its table
 pub record Keyed (key : Task → ℕ) (table : State → List Queue) : Type 0 where
   pub relists : (s : State) (u : ℕ) (x : Task) → table (moved u x s) ≡ relisted (table s) (key (task s u)) (key x) u
-  pub unlisted : (x : Task) (n : ℕ) → key (withCharge x n) ≡ key x
+  pub unmarked : (x : Task) (n e : ℕ) → key (withMarks x n e) ≡ key x
 
 pub record Still (key : Task → ℕ) (table : State → List Queue) (l t : ℕ) (s s′ : State) : Type 0 where
   pub keyed : key (task s′ t) ≡ l
@@ -135,13 +135,13 @@ pub record Still (key : Task → ℕ) (table : State → List Queue) (l t : ℕ)
 module _ {key : Task → ℕ} {table : State → List Queue} (keyed : Keyed key table) (l t : ℕ) (some : 1 ≤ t) where
   pub still-moved : (s : State) (u : ℕ) (x : Task) → key (task s t) ≡ l → (u ≡ t → key x ≡ l) → Still key table l t s (moved u x s)
   still-moved s u x e keeps = record {
-    keyed = task-either (λ y. key y ≡ l) s u x t (λ z. keyed .unlisted x (settled (task s t) x .charge) ∙ keeps z) e;
+    keyed = task-either (λ y. key y ≡ l) s u x t (λ z. keyed .unmarked x (settled (time s) (task s t) x .charge) (settled (time s) (task s t) x .entered) ∙ keeps z) e;
     nearer = rw (keyed .relists s u x) (place-relisted (table s) (key (task s u)) (key x) u l t some (λ z. ap (λ i. key (task s i)) z ∙ e ∙ sym (keeps z)));
   }
 
   pub in-table : Steady key l t (Still key table l t)
   in-table = record {
-    uncharged = keyed .unlisted;
+    unmarked = keyed .unmarked;
     same = λ s e. record { keyed = e; nearer = omega arith };
     then = λ a b. record { keyed = b .keyed; nearer = omega (arith, a .nearer, b .nearer) };
     moves = λ s u x low top. still-moved s u x;
