@@ -66,6 +66,7 @@ of-queues =
     typed queues.lent.relist_levels.signature (λ M. queues.lent.relist_levels.clauses) (λ M. queues.lent.relist_levels.Met.met) (λ w κs a g h o p. given w (λ i j. laws.queues 31 i j)) ∷
     typed queues.lent.turn_level.signature (λ M. queues.lent.turn_level.clauses) (λ M. queues.lent.turn_level.Met.met) (λ w κs a g h o p. given w (λ i j. laws.queues 31 i j)) ∷
     of queues.lent.first_of_level.signature (λ M. queues.lent.first_of_level.clauses) (λ M. queues.lent.first_of_level.Met.met) (λ w κs a g h o p. plain w result) ∷
+    of queues.lent.second_of_level.signature (λ M. queues.lent.second_of_level.clauses) (λ M. queues.lent.second_of_level.Met.met) (λ w κs a g h o p. plain w result) ∷
     of queues.lent.first_waiter.signature (λ M. queues.lent.first_waiter.clauses) (λ M. queues.lent.first_waiter.Met.met) (λ w κs a g h o p. plain w result) ∷
     typed queues.lent.relist_waits.signature (λ M. queues.lent.relist_waits.clauses) (λ M. queues.lent.relist_waits.Met.met) (λ w κs a g h o p. given w (λ i j. laws.queues 21 i j)) ∷
     of queues.lent.waiters.signature (λ M. queues.lent.waiters.clauses) (λ M. queues.lent.waiters.Met.met) (λ w κs a g h o p. plain w result) ∷
@@ -77,6 +78,7 @@ of-stored =
     typed stored.put_record.signature (λ M. stored.put_record.clauses) (λ M. stored.put_record.Met.met) (λ w κs a g h o p. given w (λ i j. laws.records i j)) ∷
     typed stored.put_remaining.signature (λ M. stored.put_remaining.clauses) (λ M. stored.put_remaining.Met.met) (λ w κs a g h o p. given w (λ i j. words (a .0 .now) i j)) ∷
     typed stored.put_charge.signature (λ M. stored.put_charge.clauses) (λ M. stored.put_charge.Met.met) (λ w κs a g h o p. given w (λ i j. words (a .0 .now) i j)) ∷
+    typed stored.put_marks.signature (λ M. stored.put_marks.clauses) (λ M. stored.put_marks.Met.met) (λ w κs a g h o p. given w (λ i j. words (a .0 .now) i j)) ∷
     typed stored.spread.signature (λ M. stored.spread.clauses) (λ M. stored.spread.Met.met) (λ w κs a g h o p. given w (λ i j. laws.records i j)) ∷
     of stored.gather.signature (λ M. stored.gather.clauses) (λ M. stored.gather.Met.met) (λ w κs a g h o p. plain w result) ∷
     []
@@ -134,6 +136,7 @@ of-plans_task =
     of plans_task.life.activate.signature (λ M. plans_task.life.activate.clauses) (λ M. plans_task.life.activate.Met.met) (λ w κs a g h o p. plain w result) ∷
     of plans_task.life.exit.signature (λ M. plans_task.life.exit.clauses) (λ M. plans_task.life.exit.Met.met) (λ w κs a g h o p. plain w result) ∷
     of plans_task.life.terminate.signature (λ M. plans_task.life.terminate.clauses) (λ M. plans_task.life.terminate.Met.met) (λ w κs a g h o p. plain w result) ∷
+    of plans_task.ready.ready_ticks.signature (λ M. plans_task.ready.ready_ticks.clauses) (λ M. plans_task.ready.ready_ticks.Met.met) (λ w κs a g h o p. plain w result) ∷
     of plans_task.turns.change_priority.signature (λ M. plans_task.turns.change_priority.clauses) (λ M. plans_task.turns.change_priority.Met.met) (λ w κs a g h o p. plain w result) ∷
     of plans_task.turns.tslice_ticks.signature (λ M. plans_task.turns.tslice_ticks.clauses) (λ M. plans_task.turns.tslice_ticks.Met.met) (λ w κs a g h o p. plain w result) ∷
     of plans_task.turns.tick.signature (λ M. plans_task.turns.tick.clauses) (λ M. plans_task.turns.tick.Met.met) (λ w κs a g h o p. plain w result) ∷
