@@ -13,11 +13,13 @@ returns c = rw (c .refused .ensures, ← c .before .before .before .before .befo
 
 returns-2 : tie.Need-returns-2
 unfolding readyTicks
-returns-2 c = rw (c .refused2 .ensures, ← c .before .before .before .before .before .before .before .is-task .ensures, passes _ _ _ (c .before .before .before .before .before .checked .ensures) (c .before .before .before .enum-told .given .1), eq-eqb _ _ (c .before .if1 .taken))
+returns-2 c = let a = c .before .before .before .before .before .before .before .before .args in
+    rw (c .refused2 .ensures, ← c .before .before .before .before .before .before .before .is-task .ensures, passes _ _ _ (c .before .before .before .before .before .checked .ensures) (c .before .before .before .enum-told .given .1), eq-eqb (a .k .active) 0 (c .before .if1 .taken))
 
 returns-3 : tie.Need-returns-3
 unfolding readyTicks
-returns-3 c = rw (c .gives .ensures, c .before .since .ensures, ← c .before .before .before .before .before .before .before .before .is-task .ensures, passes _ _ _ (c .before .before .before .before .before .before .checked .ensures) (c .before .before .before .before .enum-told .given .1), ne-eqb _ _ (c .before .before .if1 .left))
+returns-3 c = let a = c .before .before .before .before .before .before .before .before .before .args in
+    rw (c .gives .ensures, c .before .since .ensures, ← c .before .before .before .before .before .before .before .before .is-task .ensures, passes _ _ _ (c .before .before .before .before .before .before .checked .ensures) (c .before .before .before .before .enum-told .given .1), ne-eqb (a .k .active) 0 (c .before .before .if1 .left))
 
 pub ready-ticks-spec : {M : Type 1} → statement M
 ready-ticks-spec =
