@@ -1,1 +1,5 @@
 pub mod Through
+pub mod Turned
+pub mod Seen
+pub mod Marks
+pub mod Exact

@@ -105,7 +105,7 @@ module _ (s : State) (k : Sound s) (m : ℕ) (t : Tally) (a : AccountIn s m t) w
 
   ticking : AccountIn (ticked s) m t
   unfolding ticked
-  ticking = rw (numbers-lapsed 24 1 z) (stays z (c .counts) (c .maxima) a)
+  ticking = rw (numbers-lapsed 24 1 z) (let e = c .numbers in stays z (rw e) (rw e) a)
     where
       z : State
       z = charged (running s) (withTime ((time s + 1) % 2 ^ 32) s)
