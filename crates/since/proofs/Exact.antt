@@ -43,7 +43,7 @@ use Rattle.ways.proofs.Ways.{way}
 use Rattle.turns.specs.Tally.{reachedBy}
 use Rattle.turns.specs.Statements.{next, isAccepted, Each, none, each}
 use Rattle.turns.proofs.Still.{only-charged}
-use Rattle.since.specs.Statements.{levelIn, Entry, arrives, restarts, rotates, NoEntry, ticks, asked, Since, after, CountsTheTicks}
+use Rattle.since.specs.Statements.{levelIn, Entry, arrives, restarts, rotates, NoEntry, ticks, asked, Since, after}
 use Rattle.since.proofs.Marks.{Marks, marks, keeps, marks-step}
 
 -- ---- the clock
@@ -185,7 +185,3 @@ counts-mod t n h = go (marks-step (h .before) (h .sound) t low top (h .entry))
     go : Marks (isAccepted step (h .before) (h .entry)) (kind (h .entry .1)) t (h .before) s₁ → (asked step (after h) t .code ≡ NoErr) × (asked step (after h) t .value ≡ n % 2 ^ 32)
     go (marks e f) = finish f
     go (keeps e k) = absurd (e (h .enters))
-
--- ---- below 4,294,967,296 it is all of them
-pub counts-the-ticks : CountsTheTicks step
-counts-the-ticks t n h few = let a = counts-mod t n h in (a .0, a .1 ∙ mod-eq-of-lt few)

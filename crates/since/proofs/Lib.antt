@@ -3,3 +3,5 @@ pub mod Turned
 pub mod Seen
 pub mod Marks
 pub mod Exact
+pub mod Called
+pub mod Wrapped
