@@ -187,7 +187,8 @@ static void late_screen_task(void)
 
 static void asks_in_an_interrupt(void)
 {
-    expect(kernel.tasks[SCREEN_TASK].entered != kernel.numbers.time && !is_stuck(SCREEN_TASK, 0), "an interrupt gets no ticks");
+    gritgarland_report r = ask(GRITGARLAND_I, GRITGARLAND_READY_TICKS, SCREEN_TASK, 0, 0, 0);
+    expect(r.code == GRITGARLAND_WCONTEXT && r.value == 0, "an interrupt gets no ticks");
 }
 
 static void readiness(void)

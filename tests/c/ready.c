@@ -66,9 +66,11 @@ static void entries(uint32_t time)
     set_up(time);
     done(gritgarland_task_iactivate(&s, GRITGARLAND_I, 4), GRITGARLAND_NO_ERR, 4, "activated");
     is_ready_for(4, 0, "an activation enters");
+    tick(1);
     done(gritgarland_task_activate(&s, GRITGARLAND_T, 4), GRITGARLAND_NO_ERR, 4, "counted");
-    tick(2);
-    is_ready_for(4, 2, "a counted one does not");
+    done(gritgarland_task_wakeup(&s, GRITGARLAND_T, 4), GRITGARLAND_NO_ERR, 4, "a wakeup is counted too");
+    is_ready_for(4, 1, "a counted one does not");
+    tick(1);
     done(gritgarland_task_exit(&s, GRITGARLAND_T), GRITGARLAND_NO_ERR, 4, "the count is used up");
     is_ready_for(4, 0, "which enters, alone in the level too");
     done(gritgarland_task_exit(&s, GRITGARLAND_T), GRITGARLAND_NO_ERR, 1, "dormant");
