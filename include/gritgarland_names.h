@@ -29,7 +29,7 @@ static inline const char *gritgarland_code_name(int32_t code)
     }
 }
 
-/* as a list writes it */
+/* as a list writes it; ready_ticks, which no list has, as docs/SERVICES.md does */
 static inline const char *gritgarland_service_name(uint32_t service)
 {
     switch (service) {
@@ -65,6 +65,7 @@ static inline const char *gritgarland_service_name(uint32_t service)
     case GRITGARLAND_EVENT_WAIT: return "tn_event_wait";
     case GRITGARLAND_EVENT_WAIT_POLLING: return "tn_event_wait_polling";
     case GRITGARLAND_EVENT_IWAIT: return "tn_event_iwait";
+    case GRITGARLAND_READY_TICKS: return "ready_ticks";
     default: return "no such service";
     }
 }

@@ -1,4 +1,4 @@
-/* Each service of gritgarland.h as a function of its own, named as in TNKernel, on the one state that the caller lends.
+/* Each service of gritgarland.h as a function of its own, named as in TNKernel where that has it, on the one state that the caller lends.
    They are thin calls of gritgarland_call_in_place, which is proved; these functions themselves are tested and not proved. */
 #ifndef GRITGARLAND_SERVICES_H
 #define GRITGARLAND_SERVICES_H
@@ -136,6 +136,12 @@ static inline gritgarland_report gritgarland_event_wait_polling(gritgarland_stat
 static inline gritgarland_report gritgarland_event_iwait(gritgarland_state *state, uint32_t context, uint32_t flag, uint32_t pattern, uint32_t mode)
 {
     return gritgarland_call_in_place(state, context, GRITGARLAND_EVENT_IWAIT, flag, pattern, mode, 0);
+}
+/* The ticks since the task last entered its level, in `value`: since it became runnable, changed its priority or was sent back at its
+   slice, whatever it has done since. They are exact while fewer than 4,294,967,296 ticks have passed. The state stays as it is. */
+static inline gritgarland_report gritgarland_ready_ticks(gritgarland_state *state, uint32_t context, uint32_t task)
+{
+    return gritgarland_call_in_place(state, context, GRITGARLAND_READY_TICKS, task, 0, 0, 0);
 }
 
 #ifdef __cplusplus

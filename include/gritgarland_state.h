@@ -9,11 +9,16 @@
 
 #include <stdint.h>
 
-/* The layout changed with version 2.6.0, as the first table says; what was built against an earlier one must be built again.
+/* The layout changed with version 3.7.0, as the first table says; what was built against an earlier one must be built again.
+     was, in version 2.6.0                           is
+     no such field                                   tasks[t].entered, the last field of a task's record
+     a task 28 bytes, a state 2252, a reply 2264     32, 2352, 2364
+   Whoever has kept a state of before sets entered to 0 in every task; ready_ticks then counts from time 0 until the task's next entry.
+   The layout had changed with version 2.6.0:
      was, in version 1.5.0                           is
-     numbers.charges[l], of a level                  tasks[t].charge, of a task: the last field of its record
-     a task 24 bytes, a state 2276, a reply 2288     28, 2252, 2264
-   Whoever has kept a state of before gives the charge of level l to the level's first task, levels[l].places[0]; without one it is gone.
+     numbers.charges[l], of a level                  tasks[t].charge, of a task: a field of its record, behind handed
+     a task 24 bytes, a state 2276, a reply 2288     28, 2252, 2264 in version 2.6.0
+   Whoever has kept a state of then gives the charge of level l to the level's first task, levels[l].places[0]; without one it is gone.
    The layout had changed before version 1.5.0 too:
      was                                             is
      tasks[t].wait                                   tasks[t].wait.kind
@@ -56,6 +61,7 @@ typedef struct gritgarland_task {
     gritgarland_wait wait;
     uint32_t handed;     /* the bits that the last wait handed over; 0 during any wait */
     uint32_t charge;     /* ticks of its slice that it has used: below the slice of its level; 0 unless it is the first of the level */
+    uint32_t entered;    /* the time at which it last entered its level, kept while it waits or is suspended; 0 while dormant */
 } gritgarland_task;
 
 typedef struct gritgarland_queue {
@@ -80,7 +86,7 @@ typedef struct gritgarland_state {
 } gritgarland_state;
 
 /* A compiler that lays a state out otherwise than the library refuses this line. */
-typedef char gritgarland_layout_of_the_library[sizeof(gritgarland_task) == 28 && sizeof(gritgarland_state) == 2252 ? 1 : -1];
+typedef char gritgarland_layout_of_the_library[sizeof(gritgarland_task) == 32 && sizeof(gritgarland_state) == 2352 ? 1 : -1];
 
 /* The fresh state. A static state without an initializer is fresh too. */
 static inline gritgarland_state gritgarland_fresh(void)

@@ -27,7 +27,7 @@ cat >"$work/caller.c" <<'END'
 #define GRITGARLAND_NO_RUN_LIST
 #include "gritgarland.h"
 
-#if GRITGARLAND_VERSION < 20600
+#if GRITGARLAND_VERSION < 30700
 #error "an old header"
 #endif
 
@@ -51,6 +51,8 @@ int main(void)
     default: break;
     }
     if (gritgarland_wait_code(board.tasks[r.running].code) == GRITGARLAND_TIMEOUT || !gritgarland_is_sound(q.state))
+        return 1;
+    if (gritgarland_ready_ticks(&board, GRITGARLAND_T, 1).value != board.numbers.time - board.tasks[1].entered)
         return 1;
     if (gritgarland_run_list(answer, 0, answer, sizeof answer) == -11)
         return gritgarland_code_name(q.code)[0] == gritgarland_service_name(GRITGARLAND_EVENT_WAIT)[0];

@@ -84,6 +84,11 @@ call ' T,tn_task_exit,,,' "field 1 (ctx): [ T] is neither T nor I: it has a spac
 call 'T,tn_task_isuspend,1,,' "field 2 (service): no such service: [tn_task_isuspend]" '[T,tn_task_isuspend,1,,]'
 call 'T,tn_task_isuspend,1' "field 2 (service): no such service: [tn_task_isuspend]" '[T,tn_task_isuspend,1]'
 call 'T,,1,,' "field 2 (service): no such service: []" '[T,,1,,]'
+# a service of the library that no list holds is unknown as any other name is, in both forms, and in its line
+call 'T,ready_ticks,1,,' "field 2 (service): no such service: [ready_ticks]" '[T,ready_ticks,1,,]'
+six 'T,ready_ticks,1,,,' "field 2 (service): no such service: [ready_ticks]" '[T,ready_ticks,1,,,]'
+mistake 2 "$header\nT,ready_ticks,1,,,\n" "field 2 (service): no such service: [ready_ticks]" '[T,ready_ticks,1,,,]'
+mistake 4 "$header,d\nT,tn_task_create,1,5,1,\nI,tn_tick_int_processing,,,,\nT,ready_ticks,1,,," "field 2 (service): no such service: [ready_ticks]" '[T,ready_ticks,1,,,]'
 call 'T,TN_Task_exit,,,' "field 2 (service): [TN_Task_exit] is in upper case: write tn_task_exit" '[T,TN_Task_exit,,,]'
 call 'T, tn_task_exit,,,' "field 2 (service): [ tn_task_exit] has a space: write tn_task_exit" '[T, tn_task_exit,,,]'
 call 'T,"tn_task_exit",,,' 'field 2 (service): ["tn_task_exit"] has quotes: write tn_task_exit' '[T,"tn_task_exit",,,]'

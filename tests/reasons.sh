@@ -73,7 +73,7 @@ lines() {
             print start
         }
     ' "$work/services"
-    awk -v header="ctx,service,a,b,c" 'BEGIN { print header; print header ",d"; print "T"; print ","; print "x"; print "# a note"; print "T;tn_task_exit;;;" }'
+    awk -v header="ctx,service,a,b,c" 'BEGIN { print header; print header ",d"; print "T"; print ","; print "x"; print "# a note"; print "T;tn_task_exit;;;"; print "T,ready_ticks,1,,"; print "T,ready_ticks,1,,," }'
 }
 
 # right WIDE: one readable line of each service that has room

@@ -24,10 +24,11 @@ same() {
     failed=1
 }
 
-# ---- the table: number, name, context, and a word for each field, as `1 tn_task_create T task priority option`
-grep -q '^services = tasks ++ (system ++ (semaphores ++ flags))$' "$table" || { echo "services: the parts of $table stand in another order"; exit 1; }
+# ---- the table: number, name, context, and a word for each field, as `1 tn_task_create T task priority option`; the library's own services
+# are in no list, and all others have names of document 000, which begin with tn_
+grep -q '^services = tasks ++ (system ++ (semaphores ++ (flags ++ own)))$' "$table" || { echo "services: the parts of $table stand in another order"; exit 1; }
 awk '
-    /^ *(∷ )?aService "tn_/ {
+    /^( *(∷ )?|[a-z]+ = )(aService "tn_|ownService "[a-z])/ {
         split($0, quoted, "\"")
         rest = quoted[3]
         line = ++number " " quoted[2] " " substr(rest, 2, 1)
@@ -40,10 +41,12 @@ awk '
         print line
     }
 ' "$table" >"$work/table"
-[ "$(wc -l <"$work/table")" -eq 32 ] || { echo "services: $table has not 32 rows that can be read"; exit 1; }
+[ "$(wc -l <"$work/table")" -eq 33 ] || { echo "services: $table has not 33 rows that can be read"; exit 1; }
+awk '$2 !~ /^tn_/ { print $2 }' "$work/table" >"$work/own"
+[ "$(grep -c 'ownService "[a-z]' "$table")" -eq "$(wc -l <"$work/own")" ] || { echo "services: a row of $table is not in its part, or not named as those of its part"; exit 1; }
 
 # ---- the header's constants
-awk '{ print "GRITGARLAND_" toupper(substr($2, 4)), $1 }' "$work/table" >"$work/wanted"
+awk '{ sub(/^tn_/, "", $2); print "GRITGARLAND_" toupper($2), $1 }' "$work/table" >"$work/wanted"
 awk '
     /---- services/ { on = 1 }
     on && /^};/ { exit }
@@ -55,9 +58,10 @@ same "the constants of $header"
 # clear takes are a pattern in the table, and the word of a parameter is free there
 awk '
     {
-        line = "gritgarland_" substr($2, 4)
+        sub(/^tn_/, "", $2)
+        line = "gritgarland_" $2
         for (i = 4; i <= NF; i++) line = line " " ($i == "pattern" ? "bits" : $i)
-        line = line " : GRITGARLAND_" toupper(substr($2, 4))
+        line = line " : GRITGARLAND_" toupper($2)
         for (i = 4; i <= 7; i++) line = line " " (i > NF ? 0 : $i == "pattern" ? "bits" : $i)
         print line
     }
@@ -153,6 +157,10 @@ awk -F'|' '
 ' "$page" >"$work/is"
 same "the services of $page"
 
+cp "$work/own" "$work/wanted"
+awk -F'|' '/^## / { on = $0 == "## The services" } on && /^\| [0-9]+ \| `[a-z_]*`, in no list / { gsub(/ |`|, *in no list/, "", $3); print $3 }' "$page" >"$work/is"
+same "the services that $page says are in no list"
+
 awk '{ print $2, "in", ($3 == "T" ? "I" : "T") }' "$work/table" >"$work/wanted"
 awk -F'|' '
     /^## / { on = $0 == "## Which service answers which code, and when" }
@@ -160,8 +168,8 @@ awk -F'|' '
 ' "$page" >"$work/is"
 same "the contexts that $page says are refused"
 
-# ---- the table as ./play reads it, by tools/services.awk
-sed 's/^[0-9]* //' "$work/table" >"$work/wanted"
+# ---- the table as ./play reads it, by tools/services.awk: those that a list may hold
+sed -n 's/^[0-9]* \(tn_.*\)/\1/p' "$work/table" >"$work/wanted"
 awk -f tools/services.awk "$table" >"$work/is" || failed=1
 same "the table that ./play reads"
 

@@ -1,6 +1,7 @@
 # The rows of the table of services, crates/model/specs/Services.antt, as `tn_sem_acquire T semaphore timeout`: name, context, and what
-# each number is. Ends with status 1 and says the line if a row of the table can't be taken apart, or there is none.
-/aService "/ && !/^none = / {
+# each number is. A list holds these alone; the library's own services (ownService there) are in none, so they are left out. Ends with status
+# 1 and says the line if a row of the table can't be taken apart, or there is none.
+/(^|[^a-zA-Z])aService "/ {
     split($0, quoted, "\"")
     rest = quoted[3]
     if (quoted[2] !~ /^tn_[a-z_]+$/ || rest !~ /^ [TI] (\[\]|\(the[A-Z][a-z]+( ∷ the[A-Z][a-z]+)* ∷ \[\]\)) \(λ /) {

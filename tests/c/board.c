@@ -176,6 +176,46 @@ static void firing(void)
     expect(current == 0 && relays && !stopped && kernel.numbers.time == 2, "all wait: the board idles with the relays as they are");
 }
 
+/* ---- the ticks since a task became ready: its own as it comes to run, and another's that does not */
+static uint32_t screen_was_late;
+
+static void late_screen_task(void)
+{
+    screen_was_late = ticks_late();
+    ask(GRITGARLAND_T, GRITGARLAND_TASK_SLEEP, GRITGARLAND_ENDLESS, 0, 0, 0);
+}
+
+static void asks_in_an_interrupt(void)
+{
+    gritgarland_report r = ask(GRITGARLAND_I, GRITGARLAND_READY_TICKS, SCREEN_TASK, 0, 0, 0);
+    expect(r.code == GRITGARLAND_WCONTEXT && r.value == 0, "an interrupt gets no ticks");
+}
+
+static void readiness(void)
+{
+    static happening *const two_ticks[] = {timer_interrupt, asks_in_an_interrupt, timer_interrupt, NULL};
+    power_on();
+    kernel.numbers.time = UINT32_MAX - 2; /* the time wraps on the way */
+    expect(start() && current == RELAY_TASK && ticks_late() == 0, "start-up at another time");
+    for (int i = 0; i < 3; i++)
+        deliver(timer_interrupt);
+    expect(!is_stuck(SCREEN_TASK, 3), "the screen is ready for three ticks");
+    deliver(timer_interrupt);
+    expect(is_stuck(SCREEN_TASK, 3) && ticks_late() == 4 && kernel.numbers.time == 1, "and for a fourth");
+    bodies[SCREEN_TASK] = late_screen_task;
+    to_come = two_ticks;
+    expect(acquire(KEY, 2) == GRITGARLAND_TIMEOUT && screen_was_late == 4, "the screen comes to run four ticks late");
+    expect(ticks_late() == 0, "the relay at once");
+    expect(!is_stuck(SCREEN_TASK, 0) && kernel.tasks[SCREEN_TASK].wait.kind == 1, "who sleeps is not stuck");
+    expect(!is_stuck(SCREEN_TASK + 1, 0) && !is_stuck(GRITGARLAND_TASKS + 1, 0) && !is_stuck(UINT32_MAX, 0), "nor is who is not there");
+    ask(GRITGARLAND_T, GRITGARLAND_TASK_SUSPEND, SCREEN_TASK, 0, 0, 0);
+    ask(GRITGARLAND_T, GRITGARLAND_TASK_WAKEUP, SCREEN_TASK, 0, 0, 0);
+    expect(!is_stuck(SCREEN_TASK, 0) && kernel.tasks[SCREEN_TASK].wait.kind == 0, "nor who is suspended");
+    ask(GRITGARLAND_T, GRITGARLAND_TASK_RESUME, SCREEN_TASK, 0, 0, 0);
+    deliver(timer_interrupt);
+    expect(is_stuck(SCREEN_TASK, 0) && !is_stuck(SCREEN_TASK, 1), "resumed, it counts anew");
+}
+
 /* ---- a damaged state: relays off, for good */
 static void damage(void)
 {
@@ -234,6 +274,7 @@ static void otherwise(void)
 int main(void)
 {
     firing();
+    readiness();
     damage();
     otherwise();
     if (failures == 0)

@@ -73,6 +73,22 @@ static int32_t wait_for(uint32_t flag, uint32_t pattern, uint32_t mode, uint32_t
     return r.code == GRITGARLAND_PENDING ? gritgarland_wait_code(kernel.tasks[me].code) : r.code;
 }
 
+/* ---- when a task became ready: asked at once after a wait, the ticks from the wait's end until the task came to run */
+static uint32_t ticks_late(void)
+{
+    return ask(GRITGARLAND_T, GRITGARLAND_READY_TICKS, current, 0, 0, 0).value;
+}
+
+/* and of another task: it stands in its level for more than so many ticks, and has come to no wait */
+static bool is_stuck(uint32_t task, uint32_t most)
+{
+    uint32_t before = board_mask(); /* so that the answer and the record are of one time */
+    gritgarland_report r = ask(GRITGARLAND_T, GRITGARLAND_READY_TICKS, task, 0, 0, 0);
+    bool stuck = r.code == GRITGARLAND_NO_ERR && r.value > most && kernel.tasks[task].wait.kind == 0 && kernel.tasks[task].suspended == 0;
+    board_unmask(before);
+    return stuck;
+}
+
 /* ---- interrupts: they say I, since the library believes what it is told */
 static void timer_interrupt(void)
 {

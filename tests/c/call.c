@@ -5,17 +5,17 @@
 #include "same.h"
 
 _Static_assert(sizeof(gritgarland_wait) == 12 && offsetof(gritgarland_wait, spare) == 3 && offsetof(gritgarland_wait, remaining) == 4, "a wait");
-_Static_assert(sizeof(gritgarland_task) == 28 && offsetof(gritgarland_task, spare) == 7 && offsetof(gritgarland_task, wait) == 8, "a task's record");
-_Static_assert(offsetof(gritgarland_task, handed) == 20 && offsetof(gritgarland_task, charge) == 24, "its last two numbers");
+_Static_assert(sizeof(gritgarland_task) == 32 && offsetof(gritgarland_task, spare) == 7 && offsetof(gritgarland_task, wait) == 8, "a task's record");
+_Static_assert(offsetof(gritgarland_task, handed) == 20 && offsetof(gritgarland_task, charge) == 24 && offsetof(gritgarland_task, entered) == 28, "its last three numbers");
 _Static_assert(sizeof(gritgarland_queue) == 24 && sizeof(gritgarland_numbers) == 304, "a queue, and the numbers");
-_Static_assert(sizeof(gritgarland_state) == 2252 && sizeof(gritgarland_reply) == 2264, "a state");
-_Static_assert(offsetof(gritgarland_state, levels) == 700 && offsetof(gritgarland_state, waits) == 1444, "the queues");
-_Static_assert(offsetof(gritgarland_state, numbers) == 1948 && offsetof(gritgarland_state, numbers.time) == 2248, "the numbers");
+_Static_assert(sizeof(gritgarland_state) == 2352 && sizeof(gritgarland_reply) == 2364, "a state");
+_Static_assert(offsetof(gritgarland_state, levels) == 800 && offsetof(gritgarland_state, waits) == 1544, "the queues");
+_Static_assert(offsetof(gritgarland_state, numbers) == 2048 && offsetof(gritgarland_state, numbers.time) == 2348, "the numbers");
 _Static_assert(offsetof(gritgarland_numbers, slices) == 0 && offsetof(gritgarland_numbers, counts) == 124, "the levels' numbers");
 _Static_assert(offsetof(gritgarland_numbers, maxima) == 176 && offsetof(gritgarland_numbers, attributes) == 228, "the semaphores' numbers");
 _Static_assert(offsetof(gritgarland_numbers, bits) == 264 && offsetof(gritgarland_numbers, time) == 300, "the flags' numbers");
 
-enum { SERVICES = 32 };
+enum { SERVICES = 33 };
 
 static int failures;
 static gritgarland_state now;
@@ -87,6 +87,8 @@ static void the_others(void)
     ask(GRITGARLAND_T, GRITGARLAND_TASK_SUSPEND, 2, 0, 0, GRITGARLAND_NO_ERR, 1, "suspend task 2");
     ask(GRITGARLAND_T, GRITGARLAND_TASK_RESUME, 2, 0, 0, GRITGARLAND_NO_ERR, 1, "resume task 2");
     ask(GRITGARLAND_T, GRITGARLAND_SYS_TSLICE_TICKS, 5, 3, 0, GRITGARLAND_NO_ERR, 1, "a slice");
+    ask(GRITGARLAND_I, GRITGARLAND_TICK_INT_PROCESSING, 0, 0, 0, GRITGARLAND_NO_ERR, 1, "a tick of it");
+    ask4(GRITGARLAND_T, GRITGARLAND_READY_TICKS, 2, 0, 0, 0, GRITGARLAND_NO_ERR, 1, 1, "task 2 is ready for a tick");
     ask(GRITGARLAND_T, GRITGARLAND_TASK_CHANGE_PRIORITY, 2, 4, 0, GRITGARLAND_NO_ERR, 2, "task 2 takes over");
     ask(GRITGARLAND_T, GRITGARLAND_TASK_SLEEP, GRITGARLAND_ENDLESS, 0, 0, GRITGARLAND_PENDING, 1, "task 2 sleeps");
     ask(GRITGARLAND_T, GRITGARLAND_TASK_WAKEUP, 2, 0, 0, GRITGARLAND_NO_ERR, 2, "and is woken");
@@ -138,6 +140,7 @@ static void upper_bits(void)
     too_large(&now.numbers.slices[6], 65536, "a slice that is 0 in 16 bits");
     too_large(&now.tasks[1].charge, 65536, "a charge that is 0 in 16 bits");
     too_large(&now.tasks[1].charge, UINT32_MAX, "a charge of 4,294,967,295");
+    too_large(&now.tasks[2].entered, 65536, "a time of entry that is 0 in 16 bits, of a task not created");
     too_large(&now.numbers.attributes[8], 256 + 1, "attributes that are 1 in 8 bits");
     too_large(&now.numbers.attributes[8], 65536 + 1, "attributes that are 1 in 16 bits");
     too_large(&now.numbers.attributes[1], 256, "attributes that are 0 in 8 bits");
@@ -173,7 +176,7 @@ int main(void)
     ask(GRITGARLAND_T, GRITGARLAND_TASK_RESUME, 1, 0, 0, GRITGARLAND_WSTATE, 1, "a task that is not suspended");
     ask(2, GRITGARLAND_TASK_EXIT, 0, 0, 0, GRITGARLAND_WRONG_PARAM, 1, "a context that names nothing");
     ask(GRITGARLAND_T, 0, 0, 0, 0, GRITGARLAND_WRONG_PARAM, 1, "service 0");
-    ask(GRITGARLAND_T, SERVICES + 1, 0, 0, 0, GRITGARLAND_WRONG_PARAM, 1, "service 33");
+    ask(GRITGARLAND_T, SERVICES + 1, 0, 0, 0, GRITGARLAND_WRONG_PARAM, 1, "service 34");
 
     ask(GRITGARLAND_T, GRITGARLAND_TASK_SLEEP, 65535, 0, 0, GRITGARLAND_PENDING, 0, "a sleep of 65,535");
     for (uint32_t i = 1; i < 65535; i++)

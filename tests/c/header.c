@@ -66,13 +66,13 @@ static void names(void)
     for (uint32_t service = 0; service <= 70000; service++) {
         const char *name = gritgarland_service_name(service);
         expect(name != NULL, "a service without words");
-        named += name != NULL && name[0] == 't';
+        named += name != NULL && name[0] != 'n';
     }
-    expect(named == 32, "32 services have names");
+    expect(named == 33, "33 services have names");
     expect(gritgarland_code_name(INT32_MIN)[0] == 'n' && gritgarland_code_name(INT32_MAX)[0] == 'n', "the outermost codes");
 }
 
-#if GRITGARLAND_VERSION < 20600
+#if GRITGARLAND_VERSION < 30700
 #error "the version can't be compared"
 #endif
 

@@ -7,10 +7,10 @@
 
 _Static_assert(sizeof(gritgarland_report) == 12, "a report");
 
-enum { SERVICES = 32, NUMBERS = 4 };
+enum { SERVICES = 33, NUMBERS = 4 };
 
 /* how many numbers each service takes */
-static const uint32_t takes[SERVICES + 1] = {0, 3, 1, 1, 1, 0, 1, 1, 1, 1, 1, 1, 1, 1, 2, 2, 0, 3, 1, 1, 1, 2, 1, 1, 3, 1, 2, 2, 2, 2, 4, 3, 3};
+static const uint32_t takes[SERVICES + 1] = {0, 3, 1, 1, 1, 0, 1, 1, 1, 1, 1, 1, 1, 1, 2, 2, 0, 3, 1, 1, 1, 2, 1, 1, 3, 1, 2, 2, 2, 2, 4, 3, 3, 1};
 
 static int failures;
 static gritgarland_reply replies[SERVICES + 1];
@@ -60,6 +60,7 @@ static gritgarland_report by_name(gritgarland_state *s, uint32_t context, uint32
     case 30: return gritgarland_event_wait(s, context, n[0], n[1], n[2], n[3]);
     case 31: return gritgarland_event_wait_polling(s, context, n[0], n[1], n[2]);
     case 32: return gritgarland_event_iwait(s, context, n[0], n[1], n[2]);
+    case 33: return gritgarland_ready_ticks(s, context, n[0]);
     default: return gritgarland_call_in_place(s, context, service, n[0], n[1], n[2], n[3]);
     }
 }

@@ -93,6 +93,9 @@ int main(void)
     unreadable("T,tn_task_exit,,,\r\r\n", "two CRs");
     unreadable("t,tn_task_exit,,,\n", "a small letter");
     unreadable("T,tn_task_quit,,,\n", "a service that is none");
+    unreadable("T,ready_ticks,1,,\n", "a service that no list holds");
+    unreadable("I,ready_ticks,1,,\n", "from an interrupt too");
+    unreadable("T,tn_ready_ticks,1,,\n", "and by no other name");
     unreadable("T,tn_task_exit,0,,\n", "an unused field that is filled");
     unreadable("T,tn_task_sleep,,,\n", "a used field that is blank");
     unreadable("T,tn_task_sleep,01,,\n", "a needless leading zero");
@@ -106,6 +109,7 @@ int main(void)
     run(put("ctx,service,a,b,c,d"), 4096, 16, "n,code,running\r\n", "a header of six fields");
     run(put(HEADER_SIX "T,tn_task_exit,,,,\n"), 4096, 24, "n,code,running\r\n1,-2,0\r\n", "a line of six fields");
     run(put(HEADER_SIX "T,tn_task_exit,,,\n"), 4096, -12, NULL, "five fields under the header of six");
+    run(put(HEADER_SIX "T,tn_task_create,1,5,1,\nT,ready_ticks,1,,,\n"), 4096, -13, NULL, "no list holds it under this header either");
     run(put(HEADER_SIX "T,tn_event_wait,1,1,0,\n"), 4096, -12, NULL, "a flag wait without its timeout");
     unreadable("T,tn_event_wait,1,1,0\n", "a flag wait under the header of five fields");
     unreadable("T,tn_event_wait,1,1,0,5\n", "and with its sixth field");

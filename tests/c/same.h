@@ -5,7 +5,7 @@
 #include "gritgarland.h"
 #include "libc.h"
 
-_Static_assert(sizeof(gritgarland_wait) == 4 + 2 * 4 && sizeof(gritgarland_task) == 8 + sizeof(gritgarland_wait) + 2 * 4, "a record has no padding");
+_Static_assert(sizeof(gritgarland_wait) == 4 + 2 * 4 && sizeof(gritgarland_task) == 8 + sizeof(gritgarland_wait) + 3 * 4, "a record has no padding");
 _Static_assert(sizeof(gritgarland_numbers) == 4 * (31 + 2 * 13 + 2 * 9 + 1), "nor have the numbers");
 _Static_assert(sizeof(gritgarland_state) == 25 * sizeof(gritgarland_task) + (31 + 21) * sizeof(gritgarland_queue) + sizeof(gritgarland_numbers), "nor has a state");
 

@@ -6,9 +6,10 @@ use lib.Dec.{T as So}
 use Rattle.model.specs.declared.Call.{Call}
 use Rattle.model.specs.declared.Call.the-variants.{TaskCreate, TaskDelete, TaskActivate, TaskExit, TaskTerminate, TaskSuspend, TaskResume, TaskSleep, TaskWakeup, TaskReleaseWait, TaskChangePriority, SysTsliceTicks, SemCreate, SemDelete, SemSignal, SemAcquire, OnFlag, ReadyTicks}
 use Rattle.model.specs.declared.FlagService.the-variants.{Create, Set, Wait}
-use Rattle.model.specs.State.{fresh, withTime}
+use Rattle.model.specs.Task.{dormant, activated}
+use Rattle.model.specs.State.{fresh, moved, withTime}
 use Rattle.model.specs.Code.{minus}
-use Rattle.model.specs.Bench.{Step, time, charge, entered, order, shows, refuses, Case, allHold}
+use Rattle.model.specs.Bench.{Step, time, wakeups, charge, entered, order, shows, refuses, Case, allHold}
 use Rattle.model.proofs.Words.{ok, pending, task, ticks, taskGets, T, each, opened}
 
 from : ℕ → List Step → Case
@@ -27,7 +28,7 @@ table =
     -- created with option 1: now; with option 0: 0, and nothing is answered; activated: now. A counted activation is no entry, nor is a counted wakeup
     from 100
     (task (TaskCreate 1 5 1) ok 1 ∷ since 1 100 ∷ asked 1 1 0 ∷ task (TaskCreate 2 6 0) ok 1 ∷ since 2 0 ∷ refuses (each (minus 2) (T (ReadyTicks 2) ∷ []) ∷ [])
-    ∷ ticks 1 ∷ task (TaskActivate 2) ok 1 ∷ since 2 101 ∷ ticks 1 ∷ task (TaskActivate 1) ok 1 ∷ task (TaskWakeup 1) ok 1 ∷ since 1 100 ∷ asked 1 1 2 ∷ asked 2 1 1 ∷ [])
+    ∷ ticks 1 ∷ task (TaskActivate 2) ok 1 ∷ since 2 101 ∷ ticks 1 ∷ task (TaskActivate 1) ok 1 ∷ task (TaskWakeup 1) ok 1 ∷ since 1 100 ∷ asked 1 1 2 ∷ asked 2 1 1 ∷ shows (wakeups 1) (1 ∷ []) ∷ [])
     -- exit: an activation count that is used up is an entry, alone in the level too; without one the mark is 0, as after termination, deletion and
     -- creation once more
     ∷ from 200
@@ -54,6 +55,9 @@ table =
     ∷ from 700
     (task (SysTsliceTicks 6 2) ok 0 ∷ task (TaskCreate 1 6 1) ok 1 ∷ ticks 1 ∷ ticks 1 ∷ shows (charge 1) (0 ∷ []) ∷ since 1 700 ∷ task (TaskCreate 2 6 1) ok 1 ∷ task (TaskCreate 3 6 1) ok 1 ∷ ticks 1 ∷ ticks 2
     ∷ shows (order 6) (2 ∷ 3 ∷ 1 ∷ []) ∷ since 1 704 ∷ since 2 702 ∷ since 3 702 ∷ asked 2 2 2 ∷ ticks 2 ∷ ticks 3 ∷ since 2 706 ∷ since 1 704 ∷ since 3 702 ∷ [])
+    -- a slice that is set clears the charge of the first, and leaves its mark
+    ∷ from 750
+    (task (SysTsliceTicks 6 3) ok 0 ∷ task (TaskCreate 1 6 1) ok 1 ∷ ticks 1 ∷ task (SysTsliceTicks 6 2) ok 1 ∷ shows (charge 1) (0 ∷ []) ∷ since 1 750 ∷ [])
     -- a priority: one equal to the present one, by 0 too, marks nothing; another does; so does the way back. Who waits or is suspended enters nothing
     ∷ from 800
     (task (TaskCreate 1 5 1) ok 1 ∷ ticks 1 ∷ task (TaskChangePriority 1 5) ok 1 ∷ task (TaskChangePriority 1 0) ok 1 ∷ since 1 800 ∷ task (TaskChangePriority 1 7) ok 1 ∷ since 1 801 ∷ ticks 1
@@ -62,6 +66,8 @@ table =
     ∷ from 4294967294
     (task (TaskCreate 1 5 1) ok 1 ∷ since 1 4294967294 ∷ ticks 1 ∷ asked 1 1 1 ∷ ticks 1 ∷ shows time (0 ∷ []) ∷ asked 1 1 2 ∷ ticks 1 ∷ asked 1 1 3 ∷ since 1 4294967294
     ∷ task (TaskSleep 1) pending 0 ∷ ticks 1 ∷ since 1 2 ∷ asked 1 1 0 ∷ [])
+    -- and the answer has all 32 bits
+    ∷ record { start = withTime 4294967290 (moved 1 (activated (dormant 5)) (withTime 5 fresh)); steps = asked 1 1 4294967285 ∷ [] }
     ∷ []
 
 pub entries : So (allHold table)

@@ -1,1 +1,7 @@
 pub mod Through
+pub mod Turned
+pub mod Seen
+pub mod Marks
+pub mod Exact
+pub mod Called
+pub mod Wrapped

@@ -16,24 +16,37 @@ use Rattle.model.specs.Task.{isDormant, levelOf}
 use Rattle.model.specs.State.{task, time, running}
 use Rattle.model.specs.Test.{one}
 use Rattle.model.specs.Sound.{Sound}
-use Rattle.ways.specs.Kind.{exit, terminate, kind, isTick}
+use Rattle.ways.specs.Kind.{Kind, tick, exit, other, terminate, forcedRelease, setSlice, release, deletion, kind, isTick}
 use Rattle.turns.specs.Tally.{Kernel, reachedBy}
-use Rattle.turns.specs.Statements.{next, isAccepted, Does, IsFirst, Each}
+use Rattle.turns.specs.Statements.{next, isAccepted, IsFirst, Each}
 
 -- ---- entries
 -- the level of t in a state, 0 for none
 abbrev pub levelIn : State → ℕ → ℕ
 levelIn s t = levelOf (task s t)
 
--- The call makes t enter a level. No constructor asks for the mark that the record keeps.
-pub data Enters (k : Kernel) (t : ℕ) (s : State) (a : Context × Call) : Type 0 where
+-- the task that an accepted call of this kind ends, or 0: who runs exits, and another is terminated
+abbrev pub endedBy : State → Kind → ℕ
+endedBy s tick = 0
+endedBy s exit = running s
+endedBy s other = 0
+endedBy s (terminate t) = t
+endedBy s (forcedRelease t) = 0
+endedBy s (setSlice l) = 0
+endedBy s (release m) = 0
+endedBy s (deletion m) = 0
+
+-- A call of kind j, accepted or not, makes s′ of s, and makes task t enter a level. No constructor asks for the mark that the record keeps.
+pub data Entry (accepted : Bool) (j : Kind) (t : ℕ) (s s′ : State) : Type 0 where
   -- it is in a level, and was in another or in none: by activation, creation with option 1, resume, the end of a wait, another priority
-  arrives : 1 ≤ levelIn (next k s a) t → (levelIn s t ≡ levelIn (next k s a) t → ⊥) → Enters k t s a
+  arrives : 1 ≤ levelIn s′ t → (levelIn s t ≡ levelIn s′ t → ⊥) → Entry accepted j t s s′
   -- it exits or is terminated, and a counted activation makes it runnable at once
-  restartsItself : Does k s a exit → running s ≡ t → 1 ≤ levelIn (next k s a) t → Enters k t s a
-  restarts : Does k s a (terminate t) → 1 ≤ levelIn (next k s a) t → Enters k t s a
+  restarts : So accepted → endedBy s j ≡ t → 1 ≤ levelIn s′ t → Entry accepted j t s s′
   -- a rotation moves it: it was first of its level, is still of that level, and is no longer first
-  rotates : 1 ≤ levelIn s t → levelIn (next k s a) t ≡ levelIn s t → IsFirst s (levelIn s t) t → (IsFirst (next k s a) (levelIn s t) t → ⊥) → Enters k t s a
+  rotates : 1 ≤ levelIn s t → levelIn s′ t ≡ levelIn s t → IsFirst s (levelIn s t) t → (IsFirst s′ (levelIn s t) t → ⊥) → Entry accepted j t s s′
+
+abbrev pub Enters : Kernel → ℕ → State → Context × Call → Type 0
+Enters k t s a = Entry (isAccepted k s a) (kind (a .1)) t s (next k s a)
 
 abbrev pub NoEntry : Kernel → ℕ → State → Context × Call → Type 0
 NoEntry k t s a = Enters k t s a → ⊥

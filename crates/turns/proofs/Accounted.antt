@@ -41,6 +41,7 @@ use Rattle.ways.proofs.Done.{Made, Takes, atOnce, byPoll, Done, Way, refuses, a
 use Rattle.ways.proofs.Done.{Done as Ways}
 use Rattle.ways.proofs.Ways.{way}
 use Rattle.turns.proofs.Still.{Charged, only-charged}
+use Rattle.turns.proofs.Same.{reached-same}
 use Rattle.soundness.proofs.Folds.{numbers-moved, numbers-stopped, numbers-told, numbers-lapsed}
 use Rattle.turns.proofs.Handed.{one-is-served, nobody-is-served}
 
@@ -105,7 +106,7 @@ module _ (s : State) (k : Sound s) (m : ℕ) (t : Tally) (a : AccountIn s m t) w
 
   ticking : AccountIn (ticked s) m t
   unfolding ticked
-  ticking = rw (numbers-lapsed 24 1 z) (stays z (c .counts) (c .maxima) a)
+  ticking = rw (numbers-lapsed 24 1 z) (let e = c .numbers in stays z (rw e) (rw e) a)
     where
       z : State
       z = charged (running s) (withTime ((time s + 1) % 2 ^ 32) s)
@@ -176,11 +177,6 @@ pub none-without : NoneWithout step
 none-without calls m free = from-fresh m calls .none (none-of (maximum (reachedBy step fresh calls) m) .yields free)
 
 -- ---- the checked call, which answers as `step` does as long as the state is sound
-reached-called : (calls : List (Context × Call)) (s : State) → Sound s → reachedBy call s calls ≡ reachedBy step s calls
-unfolding reachedBy
-reached-called [] s k = refl
-reached-called (c ∷ rest) s k = rw (call-is-step s (c .0) (c .1) k) (reached-called rest (step s (c .0) (c .1) .state) (sound-stays-sound s (c .0) (c .1) k))
-
 tally-called : (m : ℕ) (calls : List (Context × Call)) (s : State) (t : Tally) → Sound s → tally call m s calls t ≡ tally step m s calls t
 unfolding tally
 tally-called m [] s t k = refl
@@ -189,8 +185,8 @@ tally-called m (c ∷ rest) s t k =
 
 pub every-resource-called : EveryResource call
 every-resource-called calls m made =
-    rw (reached-called calls fresh fresh-is-sound, tally-called m calls fresh noTally fresh-is-sound) (from-fresh m calls .even)
+    rw (reached-same call call-is-step calls fresh fresh-is-sound, tally-called m calls fresh noTally fresh-is-sound) (from-fresh m calls .even)
 
 pub none-without-called : NoneWithout call
 none-without-called calls m free =
-    rw (tally-called m calls fresh noTally fresh-is-sound) (none-without calls m (rw (reached-called calls fresh fresh-is-sound) at free))
+    rw (tally-called m calls fresh noTally fresh-is-sound) (none-without calls m (rw (reached-same call call-is-step calls fresh fresh-is-sound) at free))

@@ -1,4 +1,5 @@
 pub mod Words
+pub mod Same
 pub mod Pages
 pub mod Places
 pub mod Still

@@ -41,8 +41,7 @@ pub record Charged (s s′ : State) : Type 1 where
   pub tasks# : length (s′ .tasks) ≡ length (s .tasks)
   pub records : (P : Task → Type 0) (t : ℕ) → ((c e : ℕ) → P (withMarks (task s t) c e)) → P (task s′ t)
   pub waits : s′ .waits ≡ s .waits
-  pub counts : s′ .numbers .counts ≡ s .numbers .counts
-  pub maxima : s′ .numbers .maxima ≡ s .numbers .maxima
+  pub numbers : s′ .numbers ≡ s .numbers
 
 pub only-charged : (s : State) (run : ℕ) → Charged s (charged run s)
 unfolding charged chargedIn
@@ -52,19 +51,18 @@ only-charged s run = go (eqb run 0) (eqb (slice s l) 0) (ltb (task s run .charge
     l = task s run .priority
 
     nothing : Charged s s
-    nothing = record { tasks# = refl; records = λ P t holds. holds (task s t .charge) (task s t .entered); waits = refl; counts = refl; maxima = refl }
+    nothing = record { tasks# = refl; records = λ P t holds. holds (task s t .charge) (task s t .entered); waits = refl; numbers = refl }
 
     one : (n e : ℕ) → Charged s (marked run n e s)
     one n e = record {
       tasks# = unfold marked in length-set (s .tasks) run (withMarks (task s run) n e);
       records = λ P t. task-marked P s run n e t;
       waits = unfold marked in refl;
-      counts = unfold marked in refl;
-      maxima = unfold marked in refl;
+      numbers = unfold marked in refl;
     }
 
     turned : Charged s (rotated l (marked run 0 (turnedAt l run s) s))
-    turned = unfold rotated in let a = one 0 (turnedAt l run s) in record { tasks# = a .tasks#; records = a .records; waits = a .waits; counts = a .counts; maxima = a .maxima }
+    turned = unfold rotated in let a = one 0 (turnedAt l run s) in record { tasks# = a .tasks#; records = a .records; waits = a .waits; numbers = a .numbers }
 
     go : (a b c : Bool) → Charged s (cond a s (cond b s (cond c (recharged run (task s run .charge + 1) s) (rotated l (marked run 0 (turnedAt l run s) s)))))
     go true b c = nothing

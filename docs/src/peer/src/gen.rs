@@ -44,6 +44,7 @@ const WEIGHTS: [(u32, usize); LAST as usize] = [
     (EVENT_WAIT, 18),
     (EVENT_POLLING, 4),
     (EVENT_IWAIT, 4),
+    (READY_TICKS, 6), // the last, so that lists go without it
 ];
 
 /// The small world of one run: which tasks, levels, semaphores and flags it mostly names, and how it behaves.
@@ -54,6 +55,7 @@ pub struct World {
     semaphores: Vec<u32>,
     flags: Vec<u32>,
     narrow: bool, // no call takes four numbers
+    last: u32,    // the last service that it asks for
     longest_slice: u32,
     wild: usize,    // percent of calls with any numbers at all
     ticks: usize,   // percent of calls that are ticks beyond their weight
@@ -78,7 +80,13 @@ impl World {
         let ticks = rng.pick(&[0, 5, 20, 50]);
         let patient = rng.pick(&[10, 10, 40, 80]);
         let eager = rng.pick(&[50, 80, 100]);
-        World { rng, tasks, levels, semaphores, flags, narrow, longest_slice, wild, ticks, patient, crowd, eager }
+        let last = LAST;
+        World { rng, tasks, levels, semaphores, flags, narrow, last, longest_slice, wild, ticks, patient, crowd, eager }
+    }
+
+    /// A world whose calls a list can hold.
+    pub fn of_lists(seed: u64) -> World {
+        World { last: LAST_IN_LISTS, ..World::new(seed) }
     }
 
     /// The calls of a whole run: most of its objects are made first, then anything may happen.
@@ -144,9 +152,10 @@ impl World {
     }
 
     fn service(&mut self) -> u32 {
-        let all: usize = WEIGHTS.iter().map(|&(_, weight)| weight).sum();
+        let weights = &WEIGHTS[..self.last as usize];
+        let all: usize = weights.iter().map(|&(_, weight)| weight).sum();
         let mut at = self.rng.below(all);
-        for (service, weight) in WEIGHTS {
+        for &(service, weight) in weights {
             if at < weight {
                 return self.within_width(service);
             }
@@ -196,7 +205,7 @@ impl World {
 
     /// Any service in any context with any numbers near a limit.
     fn wild_call(&mut self) -> Call {
-        let service = self.rng.from(CREATE, LAST);
+        let service = self.rng.from(CREATE, self.last);
         Call {
             context: self.rng.from(T, I),
             service: self.within_width(service),

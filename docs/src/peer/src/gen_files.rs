@@ -91,7 +91,7 @@ fn swap_line_end(rng: &mut Rng, file: &mut Vec<u8>) {
 
 /// A readable list of exactly this length, at least 400 bytes: random calls, then exits that fill the rest.
 pub fn exact(seed: u64, length: usize) -> Vec<u8> {
-    let mut world = World::new(seed);
+    let mut world = World::of_lists(seed);
     let calls = world.run(length / 17);
     let width = width(&mut world.rng, &calls);
     let exit = line(&Call::of(EXIT, 0, 0, 0), width);

@@ -2,7 +2,7 @@
 //! Every damage of a single line makes that line unreadable, so the runner's answer to such a file is known.
 
 use crate::gen::Rng;
-use crate::services::{Call, EXIT, SERVICES};
+use crate::services::{Call, EXIT, READY_TICKS, SERVICES};
 
 /// The header of a list with three or four numbers on every line.
 pub fn header(width: usize) -> &'static [u8] {
@@ -47,7 +47,7 @@ pub const BAD_HEADERS: [&[u8]; 21] = [
     b"T,tn_task_exit,,,",
 ];
 
-const UNKNOWN_NAMES: [&str; 20] = [
+const UNKNOWN_NAMES: [&str; 22] = [
     "",
     " ",
     "tn_fmem_get",
@@ -68,6 +68,8 @@ const UNKNOWN_NAMES: [&str; 20] = [
     " tn_task_exit",
     "tn_task_exit ",
     "tn_task_exit()",
+    "ready_ticks",
+    "tn_ready_ticks",
 ];
 
 const TOO_LARGE: [&str; 8] = [
@@ -84,7 +86,7 @@ const TOO_LARGE: [&str; 8] = [
 /// A damage makes of a call, in a list of this width, a line that can't be read, or nothing if the call has no place for it.
 type Damage = fn(&mut Rng, &Call, usize) -> Option<Vec<u8>>;
 
-pub const LINE_DAMAGES: [(&str, Damage); 22] = [
+pub const LINE_DAMAGES: [(&str, Damage); 23] = [
     ("empty line", |_, _, _| Some(Vec::new())),
     ("CR alone", |_, _, _| Some(b"\r".to_vec())),
     ("CR inside", |rng, call, width| inserted(rng, call, width, b"\r")),
@@ -94,6 +96,7 @@ pub const LINE_DAMAGES: [(&str, Damage); 22] = [
         with_field(call, width, 0, rng.pick(&["t", "i", "", " T", "T ", "TT", "TI", "X", "\"T\"", "0"]))
     }),
     ("no such service", |rng, call, width| with_field(call, width, 1, rng.pick(&UNKNOWN_NAMES))),
+    ("a service that no list holds", |rng, _, width| Some(line(&Call::of(READY_TICKS, rng.from(0, 25), 0, 0), width))),
     ("one letter of the service", one_letter),
     ("used field blank", |rng, call, width| changed_number(rng, call, width, |_, _| String::new())),
     ("unused field filled", unused_filled),

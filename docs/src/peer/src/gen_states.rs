@@ -1,4 +1,4 @@
-//! States of the library's layout: those that random calls reach, and those with one number damaged.
+//! States of the library's layout: those that random calls reach, from any time, and those with one number damaged.
 //! A damage is kept as place and value, so that it can be made again after other calls.
 
 use crate::gen::{Rng, World, LIMITS};
@@ -7,22 +7,46 @@ use crate::layout::{store, State, TASK_PLACES};
 use crate::services::Call;
 use crate::slots;
 
-/// The state after these calls from the fresh one.
-pub fn after(calls: &[Call]) -> Kernel {
+/// Calls on the fresh state at some time.
+pub struct Run {
+    pub time: u32,
+    pub calls: Vec<Call>,
+}
+
+impl Run {
+    /// The state that they lead to.
+    pub fn end(&self) -> Kernel {
+        after(self.time, &self.calls)
+    }
+}
+
+/// The state after these calls from the fresh one at this time.
+pub fn after(time: u32, calls: &[Call]) -> Kernel {
     let mut kernel = Kernel::fresh();
+    kernel.time = time;
     for call in calls {
         kernel.call(call);
     }
     kernel
 }
 
+/// Where a run begins: at 0, at any time, or so shortly before the time wraps that it may do so in the run.
+pub fn start(rng: &mut Rng) -> u32 {
+    match rng.below(4) {
+        0 => 0,
+        1 => rng.any() as u32,
+        _ => u32::MAX - rng.from(0, 60),
+    }
+}
+
 /// A run of random calls and the state it reaches.
-pub fn reached(seed: u64) -> (Vec<Call>, State) {
+pub fn reached(seed: u64) -> (Run, State) {
     let mut world = World::new(seed);
     let length = world.rng.from(1, 150) as usize;
     let calls = world.run(length);
-    let state = store(&after(&calls));
-    (calls, state)
+    let run = Run { time: start(&mut world.rng), calls };
+    let state = store(&run.end());
+    (run, state)
 }
 
 #[derive(Clone, Copy, PartialEq, Eq, Debug)]
@@ -60,10 +84,39 @@ pub fn charges(state: &State) -> Vec<Damage> {
     damages
 }
 
-/// A damage of a charge, of any number, of one that is in use, or of a neighbour of one in use; the state is sound before.
+/// Each task with times of entry around the state's own time and at the limits: a dormant task, and one not created, may have none.
+pub fn entries(state: &State) -> Vec<Damage> {
+    let now = state.numbers.time;
+    let mut damages = Vec::new();
+    for task in 1..TASK_PLACES {
+        let slot = slots::entered_of(task);
+        for value in [0, 1, now, now.wrapping_add(1), now.wrapping_sub(1), now ^ (1 << 31), 65_536, u32::MAX] {
+            if value != state.tasks[task].entered {
+                damages.push(Damage { slot, value });
+            }
+        }
+    }
+    damages
+}
+
+/// Any time, and any time of entry for each task that may have one: a sound state stays sound.
+pub fn any_times(rng: &mut Rng, state: &State) -> Vec<Damage> {
+    let mut damages = vec![Damage { slot: slots::TIME, value: start(rng) }];
+    for task in (1..TASK_PLACES).filter(|&task| state.tasks[task].active == 1) {
+        let value = if rng.percent(50) { rng.any() as u32 } else { start(rng).wrapping_add(rng.from(0, 120)) };
+        damages.push(Damage { slot: slots::entered_of(task), value });
+    }
+    damages
+}
+
+/// A damage of a charge, of a time of entry, of any number, of one that is in use, or of a neighbour of one in use; the state is
+/// sound before.
 pub fn damage(rng: &mut Rng, state: &State) -> Damage {
     if rng.percent(10) {
         return rng.pick(&charges(state));
+    }
+    if rng.percent(10) {
+        return rng.pick(&entries(state));
     }
     let any = rng.below(slots::SLOTS);
     let used = (0..slots::SLOTS).map(|step| (any + step) % slots::SLOTS).find(|&slot| slots::get(state, slot) != 0);

@@ -34,7 +34,7 @@ pub type Outcome = Result<i32, i32>;
 pub struct Answer {
     pub code: i32,
     pub running: u32,
-    /// The bits that a wait or poll of a flag got at once, else 0.
+    /// The bits that a wait or poll of a flag got at once, or the ticks that `ready_ticks` gives, else 0.
     pub value: u32,
 }
 
@@ -73,7 +73,7 @@ impl Kernel {
         }
     }
 
-    /// One call: its code, the task that runs after it, and the bits that it got at once.
+    /// One call: its code, the task that runs after it, and what it gives at once.
     pub fn call(&mut self, call: &Call) -> Answer {
         let (code, value) = match self.serve(call) {
             Ok((code, value)) => (code, value),
@@ -82,7 +82,7 @@ impl Kernel {
         Answer { code, running: self.running() as u32, value }
     }
 
-    /// The code of an accepted call, and its bits; or the code of the refusal.
+    /// The code of an accepted call, and what it gives; or the code of the refusal.
     fn serve(&mut self, call: &Call) -> Result<(i32, u32), i32> {
         let Call { context, service, a, b, c, d } = *call;
         in_range(context, T, I)?;
@@ -91,6 +91,7 @@ impl Kernel {
         match service {
             EVENT_WAIT => return self.event_wait(here, a, b, c, d),
             EVENT_POLLING | EVENT_IWAIT => return self.event_poll(here, a, b, c),
+            READY_TICKS => return self.ready_ticks(here, a),
             _ => {}
         }
         let code = match service {
@@ -128,14 +129,16 @@ impl Kernel {
         }
     }
 
-    /// A task entering the runnable state goes last in its level. It has no charge: `leave_level` took it.
+    /// A task entering the runnable state, or another level, goes last there and is marked with the time. It has no charge:
+    /// `leave_level` took it.
     pub(crate) fn enter_level(&mut self, t: usize) {
         let level = self.tasks[t].priority;
         self.levels[level as usize].queue.join(t);
         self.filled |= 1 << level;
+        self.tasks[t].entered = self.time;
     }
 
-    /// A task that stops being runnable, or is to enter another level, loses its charge.
+    /// A task that stops being runnable, or is to enter another level, loses its charge; the mark of its last entry stays.
     pub(crate) fn leave_level(&mut self, t: usize) {
         let task = &mut self.tasks[t];
         task.charge = 0;

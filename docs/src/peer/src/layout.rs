@@ -39,6 +39,7 @@ pub struct Task {
     pub wait: Wait,
     pub handed: u32,
     pub charge: u32,
+    pub entered: u32,
 }
 
 #[repr(C)]
@@ -68,10 +69,10 @@ pub struct State {
     pub numbers: Numbers,
 }
 
-const _: () = assert!(size_of::<Task>() == 28 && offset_of!(Task, wait) == 8 && offset_of!(Task, handed) == 20);
-const _: () = assert!(offset_of!(Task, charge) == 24 && size_of::<Numbers>() == 304);
-const _: () = assert!(size_of::<State>() == 2252 && offset_of!(State, numbers) == 1948);
-const _: () = assert!(size_of::<Reply>() == 2264 && offset_of!(Reply, state) == 12);
+const _: () = assert!(size_of::<Task>() == 32 && offset_of!(Task, wait) == 8 && offset_of!(Task, handed) == 20);
+const _: () = assert!(offset_of!(Task, charge) == 24 && offset_of!(Task, entered) == 28 && size_of::<Numbers>() == 304);
+const _: () = assert!(size_of::<State>() == 2352 && offset_of!(State, numbers) == 2048);
+const _: () = assert!(size_of::<Reply>() == 2364 && offset_of!(Reply, state) == 12);
 
 #[repr(C)]
 #[derive(Clone, Copy, PartialEq, Eq, Debug)]
@@ -99,6 +100,7 @@ impl Task {
         wait: Wait::NONE,
         handed: 0,
         charge: 0,
+        entered: 0,
     };
 }
 
@@ -154,6 +156,7 @@ pub fn store(kernel: &Kernel) -> State {
             wait: stored_wait(from),
             handed: from.handed,
             charge: from.charge.into(),
+            entered: from.entered,
         };
     }
     let numbers = &mut state.numbers;
@@ -213,6 +216,7 @@ pub fn load(state: &State) -> Option<Kernel> {
             remaining: from.wait.remaining,
             handed: from.handed,
             charge: short(from.charge),
+            entered: from.entered,
         };
     }
     let numbers = &state.numbers;

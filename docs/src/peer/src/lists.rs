@@ -81,7 +81,7 @@ fn read_line(line: &[u8], width: usize) -> Option<(Call, &[u8])> {
     Some((Call { context, service, a, b, c, d }, after_line(rest)?))
 }
 
-/// The number of the service of this name.
+/// The number of the service of this name; `ready_ticks` is none of document 000's, so it is unknown here.
 fn read_name(name: &[u8]) -> Option<u32> {
     Some(match name {
         b"tn_task_create" => CREATE,

@@ -46,6 +46,8 @@ pub struct Task {
     pub handed: u32,
     /// The ticks of its slice that it has used; only the first of a level has any.
     pub charge: u16,
+    /// The time at which it last entered its level; 0 while dormant.
+    pub entered: u32,
 }
 
 impl Task {
@@ -64,6 +66,7 @@ impl Task {
             remaining: 0,
             handed: 0,
             charge: 0,
+            entered: 0,
         }
     }
 

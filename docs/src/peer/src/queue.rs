@@ -43,14 +43,16 @@ impl Queue {
         }
     }
 
-    /// The first becomes the last, if there are two or more.
-    pub fn turn(&mut self) {
+    /// The first becomes the last, if there are two or more; says whether it did.
+    pub fn turn(&mut self) -> bool {
         let len = self.len as usize;
-        if len >= 2 {
-            let first = self.items[0];
-            self.items.copy_within(1..len, 0);
-            self.items[len - 1] = first;
+        if len < 2 {
+            return false;
         }
+        let first = self.items[0];
+        self.items.copy_within(1..len, 0);
+        self.items[len - 1] = first;
+        true
     }
 }
 

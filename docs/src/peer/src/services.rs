@@ -1,5 +1,5 @@
-//! The 32 services by number: those of the base, then those of event flags. Each has a name, so many numbers and a context.
-//! A call is one service with its context and numbers, and is shown as the line of a list that asks for it.
+//! The 33 services by number: those of the base, those of event flags, and one that no list holds. Each has a name, so many numbers and
+//! a context. A call is one service with its context and numbers, and is shown as the line of a list that asks for it, or would.
 
 use std::fmt;
 
@@ -40,8 +40,11 @@ pub const ICLEAR: u32 = 29;
 pub const EVENT_WAIT: u32 = 30;
 pub const EVENT_POLLING: u32 = 31;
 pub const EVENT_IWAIT: u32 = 32;
+/// The last that document 000 names, and so the last that a list holds.
+pub const LAST_IN_LISTS: u32 = EVENT_IWAIT;
+pub const READY_TICKS: u32 = 33;
 /// The last of them.
-pub const LAST: u32 = EVENT_IWAIT;
+pub const LAST: u32 = READY_TICKS;
 
 pub struct Service {
     pub name: &'static str,
@@ -88,6 +91,7 @@ pub const SERVICES: [Service; LAST as usize + 1] = [
     service("tn_event_wait", 4, T),
     service("tn_event_wait_polling", 3, T),
     service("tn_event_iwait", 3, I),
+    service("ready_ticks", 1, T),
 ];
 
 #[derive(Clone, Copy, PartialEq, Eq, Debug)]

@@ -5,9 +5,9 @@ use crate::layout::{Queue, State, FLAG_PLACES, LEVEL_PLACES, SEMAPHORE_PLACES, T
 use crate::queue::PLACES;
 
 #[rustfmt::skip]
-pub const TASK_FIELDS: [&str; 16] = [
+pub const TASK_FIELDS: [&str; 17] = [
     "base", "priority", "active", "suspended", "wakeups", "activations", "code", "spare",
-    "wait.kind", "wait.object", "wait.mode", "wait.spare", "wait.remaining", "wait.pattern", "handed", "charge",
+    "wait.kind", "wait.object", "wait.mode", "wait.spare", "wait.remaining", "wait.pattern", "handed", "charge", "entered",
 ];
 
 const LEVELS_AT: usize = TASK_PLACES * TASK_FIELDS.len();
@@ -24,11 +24,18 @@ pub const TABLES: [usize; 7] = [LEVELS_AT, WAITS_AT, SLICES_AT, COUNTS_AT, MAXIM
 
 /// How many numbers a State holds.
 pub const SLOTS: usize = TIME_AT + 1;
+/// The system time, which is the last.
+pub const TIME: usize = TIME_AT;
 /// Those that are places of queues.
 pub const ROWS: std::ops::Range<usize> = LEVELS_AT..SLICES_AT;
 
 /// The charge of a task.
 pub fn charge_of(task: usize) -> usize {
+    task * TASK_FIELDS.len() + TASK_FIELDS.len() - 2
+}
+
+/// The time at which a task entered its level.
+pub fn entered_of(task: usize) -> usize {
     task * TASK_FIELDS.len() + TASK_FIELDS.len() - 1
 }
 
@@ -59,7 +66,8 @@ fn place(state: &mut State, slot: usize) -> Place<'_> {
                 12 => Place::Word(&mut task.wait.remaining),
                 13 => Place::Word(&mut task.wait.pattern),
                 14 => Place::Word(&mut task.handed),
-                _ => Place::Word(&mut task.charge),
+                15 => Place::Word(&mut task.charge),
+                _ => Place::Word(&mut task.entered),
             }
         }
         LEVELS_AT..WAITS_AT => queue_place(&mut state.levels, slot - LEVELS_AT),

@@ -1,4 +1,4 @@
-//! The test of 'A sound state' on the library's layout, sentence by sentence, with what requests P1 and P3 make of it.
+//! The test of 'A sound state' on the library's layout, sentence by sentence, with what requests P1, P3 and P10 make of it.
 //! It holds on any bytes: nothing is indexed by a number that was not tested before.
 
 use crate::kernel::{Asked, FLAGS, LARGEST_MAXIMUM, LARGEST_SLICE, LEVELS, SEMAPHORES, TASKS};
@@ -69,7 +69,7 @@ fn asks_what_it_may(wait: &Wait) -> bool {
         }
 }
 
-/// A dormant task has no wait, suspension, counts or code, nothing handed over, and its creation priority.
+/// A dormant task has no wait, suspension, counts or code, nothing handed over, no time of entry, and its creation priority.
 fn is_at_rest(task: &Task) -> bool {
     task.wait.kind == 0
         && task.suspended == 0
@@ -77,6 +77,7 @@ fn is_at_rest(task: &Task) -> bool {
         && task.activations == 0
         && task.code == 0
         && task.handed == 0
+        && task.entered == 0
         && task.priority == task.base
 }
 

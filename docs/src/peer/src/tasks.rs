@@ -1,4 +1,4 @@
-//! The services on tasks: create to change_priority.
+//! The services on tasks: create to change_priority, and ready_ticks.
 //! Each makes its tests in the order of document 01: numbers, existence, context, then its own.
 
 use crate::kernel::*;
@@ -158,5 +158,15 @@ impl Kernel {
             self.tasks[t].priority = wanted;
         }
         Ok(NO_ERR)
+    }
+
+    /// The ticks since the task last entered its level, whether or not it is still there; exact below 4,294,967,296.
+    pub(crate) fn ready_ticks(&self, here: bool, number: u32) -> Result<(i32, u32), i32> {
+        let t = self.task(number)?;
+        allowed(here)?;
+        if !self.tasks[t].active {
+            return Err(WCONTEXT);
+        }
+        Ok((NO_ERR, self.time.wrapping_sub(self.tasks[t].entered)))
     }
 }

@@ -24,7 +24,7 @@ impl Kernel {
         Ok(NO_ERR)
     }
 
-    /// At the slice of its level the charge goes back to 0, and the level's first, if not alone, becomes last.
+    /// At the slice of its level the charge goes back to 0, and the level's first, if not alone, becomes last: it enters anew.
     fn charge_running_task(&mut self) {
         let running = self.running();
         if running == 0 {
@@ -39,7 +39,9 @@ impl Kernel {
             task.charge += 1;
         } else {
             task.charge = 0;
-            level.queue.turn();
+            if level.queue.turn() {
+                task.entered = self.time;
+            }
         }
     }
 

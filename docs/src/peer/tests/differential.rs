@@ -4,31 +4,18 @@
 #![cfg(library)]
 
 use peer::gen::{Rng, World, LIMITS};
-use peer::gen_states::{after, charges, damage, damage_at, reached, Damage};
-use peer::kernel::{Answer, Kernel, UNSOUND, WRONG_PARAM};
+use peer::gen_states::{after, damage, damage_at, reached, start, Damage};
+use peer::kernel::{Answer, Kernel, WRONG_PARAM};
 use peer::layout::{self, store, Reply, State};
 use peer::services::*;
 use peer::shrink::shrink;
-use peer::slots::{differences, get, set, width, ROWS, SLOTS};
+use peer::slots::{get, set, width, ROWS, SLOTS};
 use peer::sound::is_sound;
 
+mod compare;
 mod library;
-use library::{call, call_in_place, is_sound as library_is_sound, SHARE};
-
-const ENTRIES: [&str; 2] = ["library", "library in place"];
-
-/// The replies of the library's two entries.
-fn library_calls(state: &State, asked: &Call) -> [Reply; 2] {
-    [call(state, asked), call_in_place(state, asked)]
-}
-
-/// How the first of the library's replies that differs from the peer's differs from it.
-fn unlike(ours: &Reply, theirs: &[Reply; 2]) -> Option<String> {
-    let (entry, theirs) = ENTRIES.iter().zip(theirs).find(|(_, theirs)| ours != *theirs)?;
-    let answer = |reply: &Reply| format!("({}, {}, {})", reply.code, reply.running, reply.value);
-    let answer = format!("peer {}, {entry} {}", answer(ours), answer(theirs));
-    Some(format!("{answer}\n{}", differences(&ours.state, &theirs.state).join("\n")))
-}
+use compare::{library_calls, state_differs, test_damaged, text, unlike};
+use library::{is_sound as library_is_sound, SHARE};
 
 /// Makes the calls on both sides from the fresh state at this time; says what differs first.
 fn run_differs(time: u32, calls: &[Call]) -> Option<String> {
@@ -50,18 +37,15 @@ fn run_differs(time: u32, calls: &[Call]) -> Option<String> {
     None
 }
 
-fn text(calls: &[Call]) -> String {
-    calls.iter().map(|call| format!("{call}\n")).collect()
-}
-
 const RUNS: u64 = 4_000 / SHARE;
 const LENGTH: usize = 300;
 
 /// Runs that share their seeds' remainder, so that two tests use two processors.
 fn random_runs(remainder: u64) {
     for seed in (0..RUNS).filter(|seed| seed % 2 == remainder) {
-        let time = if seed % 5 == 0 { u32::MAX - (seed % 60) as u32 } else { 0 };
-        let calls = World::new(seed).run(LENGTH);
+        let mut world = World::new(seed);
+        let calls = world.run(LENGTH);
+        let time = start(&mut world.rng);
         if run_differs(time, &calls).is_some() {
             let fewest = shrink(&calls, |calls| run_differs(time, calls).is_some());
             let how = run_differs(time, &fewest).unwrap_or_default();
@@ -86,73 +70,41 @@ fn a_long_run_of_ticks() {
     calls.extend([Call::of(CREATE, 1, 9, 1), Call::of(ACQUIRE, 1, 65_535, 0)]);
     calls.extend([Call::of(EVENT_CREATE, 8, 0, 1), Call::of(CREATE, 3, 9, 1), Call::wait(8, 6, 0, 65_535)]);
     calls.extend([Call::of(TICK, 0, 0, 0)].repeat(65_537));
+    calls.extend((1..=3).map(|task| Call::of(READY_TICKS, task, 0, 0)));
     assert_eq!(run_differs(u32::MAX - 30_000, &calls), None);
-    let kernel = after(&calls[..calls.len() - 2]);
+    let kernel = after(0, &calls[..calls.len() - 5]);
     assert_eq!(kernel.levels[9].queue.as_slice(), [1, 2, 3]);
 }
 
-/// Damages the state that the calls reach, then tests it and makes one more call; says what differs.
-fn damaged_differs(calls: &[Call], damages: &[Damage], last: &Call) -> Option<String> {
-    let mut state = store(&after(calls));
-    for damage in damages {
-        state = damage.apply(&state);
-    }
-    state_differs(&state, last)
-}
-
-fn state_differs(state: &State, last: &Call) -> Option<String> {
-    let sound = is_sound(state);
-    if library_is_sound(state) != sound {
-        return Some(format!("sound? peer {sound}, library {}", !sound));
-    }
-    let theirs = library_calls(state, last);
-    let [Reply { code, running, value, .. }, _] = theirs;
-    if !sound && (code, running, value) != (UNSOUND, 0, 0) {
-        return Some(format!("unsound, but the library answers ({code}, {running}, {value})"));
-    }
-    unlike(&layout::call(state, *last), &theirs)
-}
-
-fn test_damaged(seed: u64, calls: &[Call], damages: &[Damage], last: &Call) {
-    if damaged_differs(calls, damages, last).is_none() {
-        return;
-    }
-    let damages = shrink(damages, |damages| damaged_differs(calls, damages, last).is_some());
-    let calls = shrink(calls, |calls| damaged_differs(calls, &damages, last).is_some());
-    let how = damaged_differs(&calls, &damages, last).unwrap_or_default();
-    let damaged: String = damages.iter().map(|damage| format!("{damage}\n")).collect();
-    panic!("seed {seed}:\n{}then the damages\n{damaged}then {last}: {how}", text(&calls));
-}
-
-/// Every number of a state in turn: 68,960 states with one of them damaged.
+/// Every number of a state in turn: 69,960 states with one of them damaged.
 #[test]
 fn every_number_damaged() {
     let mut rng = Rng::new(11);
     for seed in 0..40 {
-        let (calls, state) = reached(seed);
+        let (run, state) = reached(seed);
         for slot in 0..SLOTS {
             let last = World::new(rng.any()).call();
-            test_damaged(seed, &calls, &[damage_at(&mut rng, &state, slot)], &last);
+            test_damaged(seed, &run, &[damage_at(&mut rng, &state, slot)], &last);
         }
     }
 }
 
-/// Every bit of every number turned over, those above what its range needs too: 270,240 states.
+/// Every bit of every number turned over, those above what its range needs too: 282,240 states.
 #[test]
 fn every_bit_turned_over() {
     let mut world = World::new(16);
     let mut states = 0;
     for seed in 6_000..6_015 {
-        let (calls, state) = reached(seed);
+        let (run, state) = reached(seed);
         for slot in 0..SLOTS {
             for bit in 0..width(slot) {
                 let last = world.call();
-                test_damaged(seed, &calls, &[Damage { slot, value: get(&state, slot) ^ (1 << bit) }], &last);
+                test_damaged(seed, &run, &[Damage { slot, value: get(&state, slot) ^ (1 << bit) }], &last);
                 states += 1;
             }
         }
     }
-    assert_eq!(states, 270_240);
+    assert_eq!(states, 282_240);
 }
 
 /// What means something above the smallest numbers, or would in 8 or 16 bits: 256 to 260 are 0 to 4 in 8.
@@ -166,33 +118,17 @@ fn every_value_that_means_something() {
     let mut world = World::new(15);
     let mut states = 0;
     for seed in 5_000..5_025 {
-        let (calls, state) = reached(seed);
+        let (run, state) = reached(seed);
         let used = |slot: usize| !ROWS.contains(&slot) || get(&state, slot) != 0 || get(&state, slot - 1) != 0;
         for slot in (0..SLOTS).filter(|&slot| used(slot)) {
             for value in (0..=32).chain(BEYOND) {
                 let last = world.call();
-                test_damaged(seed, &calls, &[Damage { slot, value }], &last);
+                test_damaged(seed, &run, &[Damage { slot, value }], &last);
                 states += 1;
             }
         }
     }
     assert!(states > 350_000, "{states}");
-}
-
-/// Every task in turn with charges near the slice of its level, then a call or a tick: above 45,000 states.
-#[test]
-fn every_charge_damaged() {
-    let mut world = World::new(18);
-    let mut states = 0;
-    for seed in 7_000..7_500 {
-        let (calls, state) = reached(seed);
-        for damage in charges(&state) {
-            let last = if states % 2 == 0 { world.call() } else { Call::of(TICK, 0, 0, 0) };
-            test_damaged(seed, &calls, &[damage], &last);
-            states += 1;
-        }
-    }
-    assert!(states > 45_000, "{states}");
 }
 
 /// 30,000 states with one number damaged where it matters most, and 10,000 with two or three.
@@ -201,12 +137,12 @@ fn numbers_in_use_damaged() {
     let mut rng = Rng::new(12);
     let (mut sound, mut unsound) = (0, 0);
     for seed in 1_000..3_000 {
-        let (calls, state) = reached(seed);
+        let (run, state) = reached(seed);
         for round in 0..20 {
             let many = if round < 15 { 1 } else { rng.from(2, 3) };
             let damages: Vec<Damage> = (0..many).map(|_| damage(&mut rng, &state)).collect();
             let last = World::new(rng.any()).call();
-            test_damaged(seed, &calls, &damages, &last);
+            test_damaged(seed, &run, &damages, &last);
             let damaged = damages.iter().fold(state, |state, damage| damage.apply(&state));
             *(if is_sound(&damaged) { &mut sound } else { &mut unsound }) += 1;
         }

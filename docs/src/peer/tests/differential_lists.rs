@@ -66,7 +66,7 @@ fn test(what: &str, file: &[u8]) {
 #[test]
 fn random_lists() {
     for seed in 0..2_000 {
-        let mut world = World::new(seed);
+        let mut world = World::of_lists(seed);
         let length = world.rng.below(150);
         let calls = world.run(length);
         test(&format!("seed {seed}"), &readable(&mut world.rng, &calls));
@@ -75,7 +75,7 @@ fn random_lists() {
 
 #[test]
 fn every_buffer_size() {
-    let mut world = World::new(21);
+    let mut world = World::of_lists(21);
     for length in [0, 1, 12, 120] {
         let calls = world.run(length);
         let file = readable(&mut world.rng, &calls);
@@ -88,7 +88,7 @@ fn every_buffer_size() {
 #[test]
 fn damaged_lines() {
     for seed in 0..10_000 {
-        let mut world = World::new(seed);
+        let mut world = World::of_lists(seed);
         let length = world.rng.from(1, 20) as usize;
         let calls = world.run(length);
         let bad = if seed % 20 == 0 { bad_end(&mut world.rng, &calls) } else { bad_list(&mut world.rng, &calls) };
@@ -101,7 +101,7 @@ fn damaged_lines() {
 #[test]
 fn damaged_bytes() {
     for seed in 0..20_000 {
-        let mut world = World::new(seed);
+        let mut world = World::of_lists(seed);
         let length = world.rng.below(20);
         let calls = world.run(length);
         let mut file = readable(&mut world.rng, &calls);

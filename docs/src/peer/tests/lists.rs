@@ -132,7 +132,7 @@ fn numbers_at_their_limits_and_the_wrong_context_are_readable() {
 
 #[test]
 fn every_service_is_read_by_its_name() {
-    for service in CREATE..=LAST {
+    for service in CREATE..=LAST_IN_LISTS {
         for context in [T, I] {
             let call = Call { context, service, a: 0, b: 0, c: 0, d: 0 };
             let wide = format!("ctx,service,a,b,c,d\n{}", call.line(4));
@@ -143,12 +143,32 @@ fn every_service_is_read_by_its_name() {
     }
 }
 
+/// It has no name in document 000: with whatever numbers, fields and context, its line is one of an unknown service.
+#[test]
+fn no_list_holds_ready_ticks() {
+    for context in ["T", "I"] {
+        for fields in ["1,,", "1,,,", "1", "", ",,", ",,,", "0,,", "25,,", "1,0,", "1,0,0", "1,0,0,0"] {
+            for name in ["ready_ticks", "tn_ready_ticks", "tn_task_ready_ticks", "READY_TICKS"] {
+                for header in ["ctx,service,a,b,c", "ctx,service,a,b,c,d"] {
+                    let blanks = if header.ends_with('d') { ",,,," } else { ",,," };
+                    let file = format!("{header}\nT,tn_task_exit{blanks}\n{context},{name},{fields}\n");
+                    assert_eq!(code_of(file.as_bytes()), -13, "{file:?}");
+                }
+            }
+        }
+    }
+    for (width, end) in [(3, ""), (4, "\n")] {
+        let line = Call::of(READY_TICKS, 1, 0, 0).line(width);
+        assert_eq!(read_list(format!("{}\n{line}{end}", String::from_utf8_lossy(header(width))).as_bytes()), Err(2));
+    }
+}
+
 #[test]
 fn every_damage_is_answered_with_its_line() {
     let mut rng = Rng::new(1);
     let mut seen = std::collections::BTreeSet::new();
     for seed in 0..3_000 {
-        let calls = World::new(seed).run(1 + seed as usize % 12);
+        let calls = World::of_lists(seed).run(1 + seed as usize % 12);
         let bad = if seed % 10 == 0 { bad_end(&mut rng, &calls) } else { bad_list(&mut rng, &calls) };
         let text = String::from_utf8_lossy(&bad.file);
         assert_eq!(code_of(&bad.file), -(10 + bad.line as i64), "{}: {text:?}", bad.damage);
@@ -160,7 +180,7 @@ fn every_damage_is_answered_with_its_line() {
 #[test]
 fn every_damage_on_every_service_in_every_place() {
     let mut rng = Rng::new(2);
-    for (service, width) in (CREATE..=LAST).flat_map(|service| [(service, 3), (service, 4)]) {
+    for (service, width) in (CREATE..=LAST_IN_LISTS).flat_map(|service| [(service, 3), (service, 4)]) {
         let good = Call { d: 4, ..Call::of(service, 1, 2, 3) };
         if good.numbers() > width {
             continue;
@@ -238,7 +258,7 @@ fn split(file: &[u8]) -> Vec<&[u8]> {
 fn damaged_bytes_never_panic_and_name_the_first_bad_line() {
     let mut rng = Rng::new(3);
     for seed in 0..30_000 {
-        let calls = World::new(seed).run(seed as usize % 16);
+        let calls = World::of_lists(seed).run(seed as usize % 16);
         let mut file = readable(&mut rng, &calls);
         damage_bytes(&mut rng, &mut file);
         let (result, answer) = run(&file);

@@ -1,8 +1,9 @@
-//! docs/EXAMPLES.md's column of the level's tasks and the charge of the first, held to the kernel after each line of the list.
-//! The rows and answers of its tables are held to the lists by tests/examples.sh.
+//! docs/EXAMPLES.md's columns of the level's tasks, the charge of the first and the times of entry, held to the kernel after each line of
+//! the list. The rows and answers of its tables are held to the lists by tests/examples.sh.
 
 use peer::kernel::Kernel;
 use peer::lists::read_list;
+use peer::services::{Call, READY_TICKS};
 use std::fs;
 
 const TOP: &str = concat!(env!("CARGO_MANIFEST_DIR"), "/../../..");
@@ -15,17 +16,22 @@ fn column(kernel: &Kernel) -> String {
     format!("{tasks} / {}", kernel.tasks[queue.first()].charge)
 }
 
+/// The rows of the section that begins so.
+fn rows(start: &str) -> Vec<String> {
+    let page = fs::read_to_string(format!("{TOP}/docs/EXAMPLES.md")).expect("the page");
+    let section = page.split("\n## ").find(|section| section.starts_with(start)).expect("its section");
+    section.lines().filter(|line| line.contains("| `T,") || line.contains("| `I,")).map(str::to_string).collect()
+}
+
+fn calls() -> Vec<Call> {
+    read_list(&fs::read(format!("{TOP}/examples/round-robin.csv")).expect("the list")).expect("a readable list")
+}
+
 #[test]
 fn the_list_of_turns() {
-    let page = fs::read_to_string(format!("{TOP}/docs/EXAMPLES.md")).expect("the page");
-    let section = page.split("\n## ").find(|section| section.starts_with("Taking turns:")).expect("its section");
-    let shown: Vec<String> = section
-        .lines()
-        .filter(|line| line.contains("| `T,") || line.contains("| `I,"))
-        .map(|line| line.split(" | ").nth(3).expect("the fourth column").to_string())
-        .collect();
-    let calls =
-        read_list(&fs::read(format!("{TOP}/examples/round-robin.csv")).expect("the list")).expect("a readable list");
+    let rows = rows("Taking turns:");
+    let shown: Vec<&str> = rows.iter().map(|line| line.split(" | ").nth(3).expect("the fourth column")).collect();
+    let calls = calls();
     let mut kernel = Kernel::fresh();
     let computed: Vec<String> = calls
         .iter()
@@ -36,4 +42,31 @@ fn the_list_of_turns() {
         .collect();
     assert!(computed.len() > 20);
     assert_eq!(shown, computed);
+}
+
+/// The time of entry and the ticks since, or the code that refuses them.
+fn since(kernel: &mut Kernel, task: u32) -> String {
+    let answer = kernel.call(&Call::of(READY_TICKS, task, 0, 0));
+    match answer.code {
+        0 => format!("{} / {}", kernel.tasks[task as usize].entered, answer.value),
+        code => code.to_string(),
+    }
+}
+
+#[test]
+fn the_times_of_entry() {
+    let mut kernel = Kernel::fresh();
+    let computed: Vec<String> = (2..)
+        .zip(calls())
+        .map(|(line, call)| {
+            kernel.call(&call);
+            let [first, second, third] = [1, 2, 3].map(|task| since(&mut kernel, task));
+            format!("| {line} | `{}` | {} | {first} | {second} | {third} | ", call.line(3), kernel.time)
+        })
+        .collect();
+    let rows = rows("Since when each is ready:");
+    assert!(rows.len() > 10);
+    for row in rows {
+        assert!(computed.iter().any(|line| row.starts_with(line)), "{row}");
+    }
 }

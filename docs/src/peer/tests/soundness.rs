@@ -69,6 +69,12 @@ fn harmless_changes() {
     assert!(with(|s| s.tasks[7].activations = 1));
     assert!(with(|s| s.tasks[7].suspended = 1));
     assert!(with(|s| s.tasks[6].priority = 1)); // a waiter may have any priority
+    for t in [1, 2, 3, 6, 7, 9] {
+        // runnable, waiting and suspended ones may have entered at any time, one that is to come too
+        for entered in [0, 1, 2, 65_536, 1 << 31, u32::MAX] {
+            assert!(with(|s| s.tasks[t].entered = entered), "task {t}");
+        }
+    }
     for code in [0, 4, 10, 11] {
         assert!(with(|s| s.tasks[1].code = code));
         assert!(with(|s| s.tasks[9].code = code));
@@ -214,6 +220,11 @@ fn dormant_tasks_and_tasks_not_created() {
         assert!(!with(|s| s.tasks[t].wakeups = 1));
         assert!(!with(|s| s.tasks[t].activations = 1));
         assert!(!with(|s| s.tasks[t].code = 4));
+        for bit in 0..32 {
+            assert!(!with(|s| s.tasks[t].entered = 1 << bit));
+        }
+        assert!(!with(|s| s.tasks[t].entered = u32::MAX));
+        assert!(!with(|s| (s.numbers.time, s.tasks[t].entered) = (7, 7))); // nor is now a time for it
         assert!(!with(|s| s.tasks[t].wait.remaining = 1));
         assert!(!with(|s| s.tasks[t].wait.kind = 1));
         assert!(!with(|s| s.tasks[t].wait.object = 4));

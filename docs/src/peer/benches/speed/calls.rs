@@ -30,6 +30,7 @@ fn cases() -> Vec<Case> {
         case("a signal that counts", semaphore(0), vec![signal]),
         case("an acquire that is met", semaphore(65_535), vec![acquire]),
         case("an acquire that waits, a signal that wakes: the mean", semaphore(0), vec![acquire, signal]),
+        case("ready_ticks of the last task", vec![], vec![Call::of(READY_TICKS, 24, 0, 0)]),
         Case { refused: true, ..case("a refused call", vec![], vec![Call { context: I, ..Call::of(EXIT, 0, 0, 0) }]) },
     ]
 }

@@ -94,7 +94,7 @@ fn playback() -> Parts {
 
 /// Sixteen random worlds, one after another in one list: creations of what exists already are refused.
 fn random() -> Parts {
-    ((1..=16).flat_map(|seed| World::new(seed).run(250)).collect(), vec![tick()])
+    ((1..=16).flat_map(|seed| World::of_lists(seed).run(250)).collect(), vec![tick()])
 }
 
 /// The most calls that a file has: the shortest line, which is refused.

@@ -1,21 +1,29 @@
 //! A kernel on the bench: each call is made in its own context and looked at from all sides.
-//! After every call the state must be sound, survive the library's layout, and be unchanged if the call was refused.
+//! After every call the state must be sound, survive the library's layout, be unchanged if the call was refused, and mark just the entries
+//! that the levels' lists show.
 #![allow(dead_code)]
 
-use peer::kernel::{Answer, Kernel};
+use peer::kernel::{Answer, Kernel, Level};
 use peer::layout::{load, store};
 use peer::services::*;
 use peer::sound::is_sound;
 
 pub struct Bench {
     pub kernel: Kernel,
-    /// What the last call got at once.
+    /// What the last call got at once: bits, or ticks.
     pub value: u32,
 }
 
 impl Bench {
     pub fn fresh() -> Bench {
-        Bench { kernel: Kernel::fresh(), value: 0 }
+        Bench::at(0)
+    }
+
+    /// Fresh, but at this time.
+    pub fn at(time: u32) -> Bench {
+        let mut kernel = Kernel::fresh();
+        kernel.time = time;
+        Bench { kernel, value: 0 }
     }
 
     pub fn make(&mut self, call: Call) -> (i32, u32) {
@@ -28,8 +36,18 @@ impl Bench {
             assert_eq!(self.kernel, before, "{call} was refused with {code} but changed the state");
         }
         assert_eq!(running as usize, self.kernel.running());
-        let gives = code == 0 && matches!(call.service, EVENT_WAIT | EVENT_POLLING | EVENT_IWAIT);
-        assert_eq!(value != 0, gives, "{call} answered {code} with {value}"); // a pattern is never met by no bits
+        for t in 1..self.kernel.tasks.len() {
+            let entered = self.kernel.tasks[t].entered;
+            assert_eq!(entered, entry(&before, &call, &self.kernel, t), "task {t} after {call}");
+        }
+        if code == 0 && call.service == READY_TICKS {
+            assert_eq!(self.kernel, before, "{call} changed the state");
+            assert_eq!(self.kernel.tasks[call.a as usize].entered.wrapping_add(value), self.kernel.time, "{call}");
+        } else {
+            let gives = code == 0 && matches!(call.service, EVENT_WAIT | EVENT_POLLING | EVENT_IWAIT);
+            assert_eq!(value != 0, gives, "{call} answered {code} with {value}");
+            // a pattern is never met by no bits
+        }
         self.value = value;
         (code, running)
     }
@@ -83,7 +101,38 @@ impl Bench {
         self.kernel.tasks[task].charge
     }
 
+    pub fn entered(&self, task: usize) -> u32 {
+        self.kernel.tasks[task].entered
+    }
+
+    /// What `ready_ticks` of the task gives; it must be accepted.
+    pub fn ready(&mut self, task: u32) -> u32 {
+        assert_eq!(self.call1(READY_TICKS, task).0, 0, "ready_ticks of {task}");
+        self.value
+    }
+
     pub fn code(&self, task: usize) -> i32 {
         self.kernel.tasks[task].wait_code.into()
+    }
+}
+
+/// The level that lists a task, and its place there.
+fn place(kernel: &Kernel, t: usize) -> Option<(usize, usize)> {
+    let listed = |level: &Level| level.queue.as_slice().iter().position(|&task| usize::from(task) == t);
+    kernel.levels.iter().enumerate().find_map(|(p, level)| Some((p, listed(level)?)))
+}
+
+/// When a task last entered its level, by the lists of the levels before a call and after it: it stands in another level than before or
+/// in one for the first time, it has used up an activation, or a tick has sent the first of its level back. A dormant task has none.
+fn entry(before: &Kernel, call: &Call, after: &Kernel, t: usize) -> u32 {
+    let (old, new) = (&before.tasks[t], &after.tasks[t]);
+    let (from, to) = (place(before, t), place(after, t));
+    let moved = to.is_some() && from.map(|at| at.0) != to.map(|at| at.0);
+    let restarted = to.is_some() && old.activations > new.activations;
+    let sent_back = call.service == TICK && from.is_some_and(|at| at.1 == 0) && to.is_some_and(|at| at.1 > 0);
+    match (new.active, moved || restarted || sent_back) {
+        (false, _) => 0,
+        (true, true) => after.time,
+        (true, false) => old.entered,
     }
 }
