@@ -8,15 +8,16 @@ use Rattle.model.specs.declared.Call.{Call}
 use Rattle.model.specs.declared.Call.the-variants.{TaskCreate, TaskActivate, TaskExit, TaskTerminate, TaskSuspend, TaskResume, TaskSleep, TaskWakeup, TaskIwakeup, TaskChangePriority, SysTsliceTicks, SemCreate, SemDelete, SemSignal, SemIsignal, SemAcquire, SemPolling}
 use Rattle.model.specs.State.{fresh, withTime}
 use Rattle.model.specs.Code.{minus}
-use Rattle.model.specs.Bench.{time, waitCode, suspended, priority, remaining, wakeups, handed, charge, order, queue, counted, shows, Case, allHold}
+use Rattle.model.specs.Bench.{time, waitCode, suspended, priority, remaining, wakeups, handed, charge, order, queue, counted, shows, Case, allHoldChecked, allHold}
 use Rattle.model.proofs.Words.{ok, pending, task, int, ticks, from0, opened}
 
 at : ℕ → State
 at n = withTime n fresh
 
-pub table : List Case
-table =
-    -- 01's starred cases. 1: three tasks of one level, slice 2
+-- 01's own, by the checked call
+pub cases : List Case
+cases =
+    -- the starred cases. 1: three tasks of one level, slice 2
     from0
     (task (SysTsliceTicks 6 2) ok 0 ∷ task (TaskCreate 1 6 1) ok 1 ∷ task (TaskCreate 2 6 1) ok 1 ∷ task (TaskCreate 3 6 1) ok 1
     ∷ ticks 1 ∷ ticks 2 ∷ ticks 2 ∷ ticks 3 ∷ ticks 3 ∷ ticks 1 ∷ [])
@@ -54,8 +55,13 @@ table =
     ∷ from0
     (task (SemCreate 1 0 1) ok 0 ∷ task (TaskCreate 1 5 1) ok 1 ∷ task (TaskCreate 2 5 1) ok 1 ∷ task (SemAcquire 1 2) pending 2 ∷ ticks 2
     ∷ int (SemIsignal 1) ok 2 ∷ task (SemSignal 1) ok 2 ∷ task (SemSignal 1) (minus 1) 2 ∷ task TaskExit ok 1 ∷ task (SemPolling 1) ok 1 ∷ [])
-    -- the corners. The time wraps nowhere else
-    ∷ record { start = at 2147483647; steps = ticks 0 ∷ shows time (2147483648 ∷ []) ∷ [] }
+    ∷ []
+
+-- the corners, and the charges, by the step
+pub corners : List Case
+corners =
+    -- the time wraps nowhere else
+    record { start = at 2147483647; steps = ticks 0 ∷ shows time (2147483648 ∷ []) ∷ [] }
     -- charge and rotation come before the timeouts
     ∷ from0
     (task (SysTsliceTicks 6 1) ok 0 ∷ task (TaskCreate 3 6 1) ok 3 ∷ task (TaskSleep 1) pending 0 ∷ task (TaskCreate 1 6 1) ok 1 ∷ task (TaskCreate 2 6 1) ok 1
@@ -125,6 +131,10 @@ table =
     ∷ task (TaskSleep 2) pending 1 ∷ ticks 1 ∷ shows (charge 1) (1 ∷ []) ∷ ticks 2 ∷ shows (charge 1) (2 ∷ []) ∷ task (TaskActivate 1) ok 2 ∷ task (TaskTerminate 1) ok 2 ∷ shows (charge 1) (0 ∷ []) ∷ shows (order 6) (1 ∷ []) ∷ [])
     ∷ []
 
-pub bench : So (allHold table)
-unfolding opened table at
+pub bench : So (allHoldChecked cases)
+unfolding opened cases at
 bench = tt
+
+pub corners-hold : So (allHold corners)
+unfolding opened corners at
+corners-hold = tt
