@@ -11,7 +11,8 @@ use Rattle.text.specs.declared.number.Number.the-variants.{Digits, NoNumber}
 use Rattle.text.specs.Bytes.{bytes, begins}
 use Rattle.text.proofs.Reading.{cond-by}
 use Rattle.model.specs.declared.Context.{Context}
-use Rattle.model.specs.Services.{Service, tasks, system, semaphores, flags, own, services, service}
+use Rattle.model.specs.Services.{Service, services, service}
+use Rattle.model.proofs.Words.{table}
 use Rattle.services.specs.declared.names.Name.{Name}
 use Rattle.services.specs.declared.names.Name.the-variants.{Known, Unknown}
 use Rattle.services.specs.Names.{label, begun, nameIn, nameOf}
@@ -70,7 +71,7 @@ name-among (x ∷ xs) t k s =
     (begun-long s x (both-left (isLong x) (long xs) t)) (name-among xs (both-right (isLong x) (long xs) t) (k + 1) s)
 
 pub name-has : (s : List ℕ) → NameHas (nameOf s)
-unfolding nameOf services tasks system semaphores flags own long label
+unfolding nameOf table long label
 name-has s = name-among services tt 1 s
 
 pub comma-has : (used : Bool) (s : List ℕ) → NumberHas (commaField used s)

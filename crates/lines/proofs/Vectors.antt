@@ -9,7 +9,7 @@ use Rattle.text.specs.Number.{isDigit, digits, valueAfter, numeral, numberOf}
 use Rattle.model.specs.declared.Context.the-variants.{T, I}
 use Rattle.model.specs.declared.Call.the-variants.{TaskCreate, TaskExit, TaskSleep, TickIntProcessing, SemCreate, SemSignal, SemIsignal, SemAcquire, SemPolling, OnFlag}
 use Rattle.model.specs.declared.FlagService.the-variants.{Create, Wait, WaitPolling, Iwait}
-use Rattle.model.specs.Services.{tasks, system, semaphores, flags, own, services, service}
+use Rattle.model.proofs.Words.{table}
 use Rattle.services.specs.Names.{label, nameIn, nameOf}
 use Rattle.lines.specs.declared.line.Line.{Line}
 use Rattle.lines.specs.declared.line.Line.the-variants.{Reads, Unreadable}
@@ -100,11 +100,11 @@ wideRows =
     ∷ []
 
 pub lines-read : given false rows ≡ wanted rows
-unfolding rows lineOf letterOf nameOf nameIn label services tasks system semaphores flags own service fieldsOf tailOf narrowTail fieldOf commaField lastField endOf numberOf numeral valueAfter digits isDigit begins
+unfolding rows lineOf letterOf nameOf nameIn label table fieldsOf tailOf narrowTail fieldOf commaField lastField endOf numberOf numeral valueAfter digits isDigit begins
 lines-read = refl
 
 pub wide-lines-read : given true wideRows ≡ wanted wideRows
-unfolding wideRows lineOf letterOf nameOf nameIn label services tasks system semaphores flags own service fieldsOf tailOf wideTail fieldOf commaField lastField endOf numberOf numeral valueAfter digits isDigit begins
+unfolding wideRows lineOf letterOf nameOf nameIn label table fieldsOf tailOf wideTail fieldOf commaField lastField endOf numberOf numeral valueAfter digits isDigit begins
 wide-lines-read = refl
 
 abbrev pub headers : List Header

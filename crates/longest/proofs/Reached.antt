@@ -28,7 +28,8 @@ use Rattle.soundness.proofs.Soundness.{fresh-is-sound, sound-stays-sound}
 use Rattle.lines.specs.declared.line.Line.the-variants.{Reads}
 use Rattle.lines.specs.declared.line.Header.the-variants.{Ends}
 use Rattle.lines.specs.declared.fields.End.the-variants.{Closes}
-use Rattle.model.specs.Services.{tasks, system, semaphores, flags, services, service, isMine}
+use Rattle.model.specs.Services.{isMine}
+use Rattle.model.proofs.Words.{table}
 use Rattle.services.specs.Names.{label, nameIn, nameOf}
 use Rattle.lines.specs.Fields.{fieldOf, commaField, endOf, lastField, narrowTail, wideTail, tailOf, fieldsOf}
 use Rattle.lines.specs.Lines.{letterOf, lineOf, headed, headerOf}
@@ -50,17 +51,17 @@ size false = 17
 size true = 18
 
 exit-line : (wide : Bool) (rest : List ℕ) → lineOf wide (refusal wide ++ (10 ∷ rest)) ≡ Reads I TaskExit (suc (size wide))
-unfolding lineOf letterOf nameOf nameIn services tasks system semaphores flags label begins service fieldsOf tailOf narrowTail wideTail commaField lastField fieldOf
+unfolding lineOf letterOf nameOf nameIn table label begins fieldsOf tailOf narrowTail wideTail commaField lastField fieldOf
 exit-line false rest = simp (feed rest)
 exit-line true rest = simp (feed rest)
 
 last-line : (wide : Bool) → lineOf wide (refusal wide) ≡ Reads I TaskExit (size wide)
-unfolding lineOf letterOf nameOf nameIn services tasks system semaphores flags label begins service fieldsOf tailOf narrowTail wideTail commaField lastField fieldOf endOf
+unfolding lineOf letterOf nameOf nameIn table label begins fieldsOf tailOf narrowTail wideTail commaField lastField fieldOf endOf
 last-line false = refl
 last-line true = refl
 
 create-line : (rest : List ℕ) → lineOf false (bytes "T,tn_task_create,10,1,1\n" ++ rest) ≡ Reads T (TaskCreate 10 1 1) 24
-unfolding lineOf letterOf nameOf nameIn services tasks system semaphores flags label begins service fieldsOf tailOf narrowTail commaField lastField fieldOf numberOf isDigit digits valueAfter numeral
+unfolding lineOf letterOf nameOf nameIn table label begins fieldsOf tailOf narrowTail commaField lastField fieldOf numberOf isDigit digits valueAfter numeral
 create-line rest = simp (feed rest)
 
 header-line : (rest : List ℕ) → headerOf (bytes "ctx,service,a,b,c\n" ++ rest) ≡ Ends false 18
@@ -106,7 +107,7 @@ made-sound : Sound made
 made-sound = sound-stays-sound fresh T (TaskCreate 10 1 1) fresh-is-sound
 
 made-answer : (step fresh T (TaskCreate 10 1 1) .code ≡ NoErr) × (step fresh T (TaskCreate 10 1 1) .running ≡ 10)
-unfolding step planned isMine service services tasks system semaphores flags plan create within carried moved running bestFrom relisted leftRow joinedRow withRow row joined place levelOf rowOf
+unfolding step planned isMine table plan create within carried moved running bestFrom relisted leftRow joinedRow withRow row joined place levelOf rowOf
 made-answer = (refl, refl)
 
 made-runs : running made ≡ 10
@@ -114,7 +115,7 @@ unfolding step
 made-runs = made-answer .1
 
 exit-answer : (s : State) → step s I TaskExit ≡ record { code = WContext; running = running s; value = 0; state = s }
-unfolding step planned isMine service services tasks system semaphores flags plan exit carried
+unfolding step planned isMine table plan exit carried
 exit-answer s = refl
 
 width-ten : length (decimal 10) ≡ 2

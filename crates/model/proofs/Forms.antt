@@ -10,12 +10,13 @@ use Rattle.model.specs.declared.FlagService.the-variants.{Set, Iset, Cle
 use Rattle.model.specs.Services
 use Rattle.model.specs.Call as Calls
 use Rattle.model.specs.Call.{call}
+use Rattle.model.proofs.Words.{table}
 
 abbrev pub Same : Call → Call → Type 0
 Same i t = (s : State) → call s I i ≡ call s T t
 
 opened : ℕ
-unfolding Calls.call Calls.step Calls.planned Calls.plan Calls.flagPlan Services.isMine Services.service Services.services Services.tasks Services.system Services.semaphores Services.flags Services.own
+unfolding Calls.call Calls.step Calls.planned Calls.plan Calls.flagPlan Services.isMine table
 opened = 0
 
 pub activates : (t : ℕ) → Same (TaskIactivate t) (TaskActivate t)

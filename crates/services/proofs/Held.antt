@@ -8,13 +8,14 @@ use lib.Dec.{T as So, leb, leb→le}
 use lib.ListN.{length}
 use Rattle.text.specs.Bytes.{bytes, begins}
 use Rattle.model.specs.Test.{implies}
-use Rattle.model.specs.Services.{Service, tasks, system, semaphores, flags, own, services}
+use Rattle.model.specs.Services.{Service}
+use Rattle.model.proofs.Words.{table}
 use Rattle.services.specs.declared.names.Name.the-variants.{Unknown}
 use Rattle.services.specs.Names.{label, begun, nameIn, nameOf}
 
 -- Keys has it of whatever bytes begin with that name
 pub ready-ticks-unknown : nameOf (bytes "ready_ticks,") ≡ Unknown
-unfolding nameOf nameIn services tasks system semaphores flags own label begins
+unfolding nameOf nameIn table label begins
 ready-ticks-unknown = refl
 
 -- a name that lists hold has 13 bytes at least, with its comma

@@ -11,7 +11,8 @@ use borrow.Author.Tests.{eq-eqb, ne-eqb, eqb-true}
 use Rattle.text.specs.Bytes.{bytes, begins}
 use Rattle.text.proofs.Begins.{begins-at}
 use Rattle.model.specs.Test.{implies}
-use Rattle.model.specs.Services.{Service, tasks, system, semaphores, flags, own, services}
+use Rattle.model.specs.Services.{Service, tasks, semaphores, flags, services}
+use Rattle.model.proofs.Words.{table}
 use Rattle.services.specs.declared.names.Name.{Name}
 use Rattle.services.specs.declared.names.Name.the-variants.{Known, Unknown}
 use Rattle.services.specs.Names.{label, nameIn, nameOf}
@@ -78,7 +79,7 @@ early-bytes : (i j : ℕ) → i < 13 → j < 13 → Early (λ s. getD s i 0 + ge
 early-bytes i j h k s t e g = rw (early-byte i h s t e g, early-byte j k s t e g)
 
 pub at-family : {r : Name} (s : List ℕ) {a m : ℕ} → a ≡ getD s 4 0 → a ≡ m → r ≡ keyed familyKey services 1 m s → r ≡ nameOf s
-unfolding nameOf services tasks system semaphores flags own long label
+unfolding nameOf table long label
 at-family s p e q = at-key familyKey (early-byte 4 (omega arith)) services tt 1 s (sym e ∙ p) q
 
 pub at-task : {r : Name} (s : List ℕ) {a b m : ℕ} → a ≡ getD s 8 0 → b ≡ getD s 11 0 → a + b ≡ m → r ≡ keyed taskKey tasks 1 m s → r ≡ nameIn tasks 1 s
@@ -122,7 +123,7 @@ abbrev pub flagKeys : List ℕ
 flagKeys = 211 ∷ 202 ∷ 145 ∷ 231 ∷ 205 ∷ 200 ∷ 213 ∷ 224 ∷ []
 
 pub no-family : (s : List ℕ) (h : ℕ) → h ≡ getD s 4 0 → Rest familyKeys h Unit → Unknown ≡ nameOf s
-unfolding services tasks system semaphores flags own label has covered
+unfolding table label has covered
 no-family s h p r = at-family s p refl (no-key familyKey familyKeys services tt 1 h s r)
 
 pub no-task : (s : List ℕ) (a b : ℕ) → a ≡ getD s 8 0 → b ≡ getD s 11 0 → Rest taskKeys (a + b) Unit → Unknown ≡ nameIn tasks 1 s
@@ -139,6 +140,6 @@ no-flag s a b p o r = at-flag s p o refl (no-key flagKey flagKeys flags tt 24 (a
 
 -- no list holds `ready_ticks`: its r (114) is the first byte of no name that lists hold
 pub no-list-holds-ready-ticks : (s : List ℕ) → begins s (bytes "ready_ticks,") ≡ true → nameOf s ≡ Unknown
-unfolding nameOf services tasks system semaphores flags own long label keyed
+unfolding nameOf table long label keyed
 no-list-holds-ready-ticks s e =
     sym (at-key (λ (t : List ℕ). getD t 0 0) (early-byte 0 (omega arith)) services tt 1 s {m = 114} (sym (begins-at s (bytes "ready_ticks,") e 0 (omega arith))) refl)

@@ -10,7 +10,8 @@ use lib.ListN.{length}
 use borrow.Author.Tests.{leb-true}
 use Rattle.text.specs.Bytes.{begins}
 use Rattle.model.specs.Plan.{within}
-use Rattle.model.specs.Services.{Service, tasks, system, semaphores, flags, own, services, service, serviceNumber}
+use Rattle.model.specs.Services.{Service, services, service, serviceNumber}
+use Rattle.model.proofs.Words.{table}
 use Rattle.services.specs.Names.{label}
 use Rattle.services.specs.Calls.{isService}
 use Rattle.services.proofs.Numbers.{fits, at-place}
@@ -26,16 +27,16 @@ right [] = true
 right (x ∷ xs) = leb (length (x .fields)) 4 && apart x xs && right xs
 
 pub table-right : right services ≡ true
-unfolding right apart services tasks system semaphores flags own label begins
+unfolding right apart table label begins
 table-right = refl
 
 pub table-size : length services ≡ 33
-unfolding services tasks system semaphores flags own
+unfolding table
 table-size = refl
 
 -- the call of each row, from 1 on, is of the service of its number, whatever the numbers are
 table-agrees : (a b c d : ℕ) → So (fits (λ (x : Service). serviceNumber (x .call a b c d)) (λ k. k) 1 services)
-unfolding fits services tasks system semaphores flags own
+unfolding fits table
 table-agrees a b c d = tt
 
 -- ---- what a range test of a number tells

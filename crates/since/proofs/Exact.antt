@@ -23,7 +23,8 @@ use Rattle.model.specs.State.{task, time, waiters, running, moved, marked, coun
 use Rattle.model.specs.Code.{isRefusal}
 use Rattle.model.specs.Plan.{within}
 use Rattle.model.specs.Service.{readyTicks}
-use Rattle.model.specs.Services.{isMine, service, services, tasks, system, semaphores, flags, own}
+use Rattle.model.specs.Services.{isMine}
+use Rattle.model.proofs.Words.{table}
 use Rattle.model.specs.Effect.{deleted, toldFlag, charged, ticked, carried}
 use Rattle.model.specs.Call.{plan, planned, step}
 use Rattle.model.specs.Test.{one}
@@ -125,7 +126,7 @@ module _ (t : ℕ) (low : 1 ≤ t) (top : t ≤ 24) where
 
   -- ---- the answer
   answered : (s : State) → Sound s → 1 ≤ task s t .active → (asked step s t .code ≡ NoErr) × (asked step s t .value ≡ since (task s t .entered) (time s))
-  unfolding step planned plan readyTicks isMine service services tasks system semaphores flags own within
+  unfolding step planned plan readyTicks isMine table within
   answered s k live =
       let made = live-made (task s t) (k .tasks t) live in
       rw (le-leb 1 t low, le-leb t 24 top, ne-eqb (task s t .base) 0 (λ e. omega arith), ne-eqb (task s t .active) 0 (λ e. omega arith)) (refl, refl)

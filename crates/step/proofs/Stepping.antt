@@ -15,7 +15,8 @@ use Rattle.model.specs.declared.Code.the-variants.{NoErr, WContext}
 use Rattle.model.specs.Row.{bestFrom}
 use Rattle.model.specs.State.{running}
 use Rattle.model.specs.Service.{tick}
-use Rattle.model.specs.Services.{service, services, tasks, system, semaphores, flags, same, isMine}
+use Rattle.model.specs.Services.{same, isMine}
+use Rattle.model.proofs.Words.{table}
 use Rattle.model.specs.Effect.{tickedFrom, carriedFrom, carried}
 use Rattle.model.specs.Call.{plan, plannedFrom, planned, stepFrom, step}
 
@@ -28,11 +29,11 @@ stepped s c a run p s₁ run₁ e f g = rw (g, f, e)
 -- a tick, which looks at no record
 module _ (run : ℕ) (s : State) (c : Context) (mine : Bool) (e : mine ≡ same c I) (run₁ : ℕ) where
   pub tick-refused : not mine ≡ true → run₁ ≡ bestFrom 30 1 (s .levels) → record { code = WContext; running = run₁; value = 0; state = s } ≡ stepFrom run s c TickIntProcessing
-  unfolding plan tick isMine service services tasks system semaphores flags running
+  unfolding plan tick isMine table running
   tick-refused h f = rw (← e, not-true mine h, f)
 
   pub tick-passes : (s₁ : State) → not mine ≡ false → s₁ ≡ tickedFrom run s → run₁ ≡ bestFrom 30 1 (s₁ .levels) → record { code = NoErr; running = run₁; value = 0; state = s₁ } ≡ stepFrom run s c TickIntProcessing
-  unfolding plan tick isMine service services tasks system semaphores flags running
+  unfolding plan tick isMine table running
   tick-passes s₁ h d f = rw (← e, not-false mine h, f, d)
 
 -- where `run` runs, the step is that of the model
