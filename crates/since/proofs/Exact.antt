@@ -4,10 +4,10 @@ use mathlib.Core.Path.{_≡_, refl, sym, ap, _∙_}
 use mathlib.Core.Bool.{Bool, true, false, cond, not, _&&_}
 use mathlib.Core.List.{List, [], _∷_}
 use mathlib.Core.Logic.{_⊎_, inl, inr, ⊎-elim}
-use Prim.Native.Nat.{ℕ, zero, _+_, _-_, _≤_, _<_, _%_, _^_}
+use Prim.Native.Nat.{ℕ, _+_, _-_, _≤_, _<_, _%_, _^_}
 use native.Mathlib.Omega.{arith}
 use native.Mathlib.Nat.{mod-lt, mod-eq-of-lt, mod-add-mod, add-mod-right}
-use lib.Dec.{T as So, eqb}
+use lib.Dec.{T as So}
 use borrow.Author.Tests.{ne-eqb, le-leb}
 use Rattle.model.specs.declared.State.{State}
 use Rattle.model.specs.declared.Plan.{Plan}
@@ -18,7 +18,7 @@ use Rattle.model.specs.declared.Context.{Context}
 use Rattle.model.specs.declared.Call.{Call}
 use Rattle.model.specs.declared.News.the-variants.{Deleted}
 use Rattle.model.specs.Flag.{flagRow}
-use Rattle.model.specs.Task.{isDormant, levelOf, since}
+use Rattle.model.specs.Task.{levelOf, since}
 use Rattle.model.specs.State.{task, time, waiters, running, moved, marked, counted, flagged, sliced, withTime}
 use Rattle.model.specs.Code.{isRefusal}
 use Rattle.model.specs.Plan.{within}
@@ -29,7 +29,6 @@ use Rattle.model.specs.Effect.{deleted, toldFlag, charged, ticked, carried}
 use Rattle.model.specs.Call.{plan, planned, step}
 use Rattle.model.specs.Test.{one}
 use Rattle.model.specs.Sound.{Sound}
-use Rattle.laws.proofs.Number.{same?}
 use Rattle.laws.proofs.Record.{level-none}
 use Rattle.soundness.proofs.Orderly.{sound-orderly, task-in}
 use Rattle.soundness.proofs.Folds.{numbers-stopped, numbers-told, numbers-lapsed}

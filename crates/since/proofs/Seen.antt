@@ -3,11 +3,9 @@
 use mathlib.Core.Path.{_≡_, refl, sym, ap, _∙_}
 use mathlib.Core.Bool.{Bool, true, false, cond}
 use mathlib.Core.Logic.{_⊎_, inl, inr, ⊎-elim}
-use Prim.Native.Nat.{ℕ, _+_, _≤_, _<_, _%_, _^_}
+use Prim.Native.Nat.{ℕ, _+_, _≤_, _%_, _^_}
 use native.Mathlib.Omega.{arith}
 use lib.Dec.{eqb}
-use lib.ListN.{length}
-use borrow.Author.Tests.{eqb-true, eqb-false}
 use Rattle.model.specs.declared.Task.{Task}
 use Rattle.model.specs.declared.State.{State}
 use Rattle.model.specs.declared.Effect.{Effect}
@@ -17,7 +15,7 @@ use Rattle.model.specs.declared.News.the-variants.{Deleted}
 use Rattle.model.specs.Row.{firstOf}
 use Rattle.model.specs.Flag.{flagRow}
 use Rattle.model.specs.Task.{noTask, levelOf, dormant, activated, created, settled, served, released, waiting, ended}
-use Rattle.model.specs.State.{task, time, waiters, running, moved, marked, counted, flagged, sliced, withTime}
+use Rattle.model.specs.State.{task, time, waiters, running, moved, counted, flagged, sliced, withTime}
 use Rattle.model.specs.Effect.{stopped, toldAll, deleted, toldFlag, charged, lapsed, ticked, carried}
 use Rattle.model.specs.Sound.{SoundTask, Sound}
 use Rattle.laws.proofs.Number.{same?}
@@ -25,22 +23,22 @@ use Rattle.laws.proofs.Record.{level-none, level-dormant, level-settled, entry-
 use Rattle.laws.proofs.Relisted.{relisted-kept}
 use Rattle.soundness.proofs.Listed.{key-first}
 use Rattle.soundness.proofs.Moved.{task-moved, tasks-moved}
-use Rattle.soundness.proofs.Folds.{Chained, by-stop, numbers-stopped, numbers-told}
+use Rattle.soundness.proofs.Folds.{Chained, by-stop}
 use Rattle.soundness.proofs.Orderly.{sound-orderly, task-in}
 use Rattle.soundness.proofs.Records.{live-made, suspended-live, waiting-live, row-live}
 use Rattle.soundness.proofs.Running.{runner}
-use Rattle.soundness.proofs.Told.{waiter-in, first-waits}
+use Rattle.soundness.proofs.Told.{first-waits}
 use Rattle.soundness.proofs.Changes.{sound-withTime}
 use Rattle.soundness.proofs.Effects.{sound-charged}
 use Rattle.tested.proofs.Records.{level-most}
 use Rattle.ways.specs.Kind.{Kind}
 use Rattle.ways.specs.Entry.{Entry}
-use Rattle.ways.proofs.Done.{Named, Change, Done}
+use Rattle.ways.proofs.Done.{Change, Done}
 use Rattle.ways.proofs.Done.{Done as Ways}
 use Rattle.ways.proofs.Done.Change.{creates, deletes, activates, countsActivation, suspends, resumes, usesWakeup, wakes, countsWakeup, prioritises}
 use Rattle.turns.proofs.Still.{only-charged}
 use Rattle.since.specs.Statements.{levelIn, endedBy}
-use Rattle.since.proofs.Through.{Kept, Came, Through, kept-same, kept-moved, through-told, through-lapsed}
+use Rattle.since.proofs.Through.{Kept, Came, Through, kept-same, kept-then, kept-moved, through-told, through-lapsed}
 use Rattle.since.proofs.Turned.{Rotated, there, kept-marked, seen-charged}
 
 -- what a call of kind j, which made s′ of s, did to t
@@ -125,10 +123,7 @@ module _ (s : State) (k : Sound s) (t : ℕ) (low : 1 ≤ t) (top : t ≤ 24) wh
 
   -- ---- a stop
   chained : Chained (λ z z′. Kept t z z′)
-  chained = record {
-    same = kept-same t;
-    then = λ a b. record { level = b .level ∙ a .level; entered = b .entered ∙ a .entered; active = b .active ∙ a .active; first = λ l f. b .first l (a .first l f) };
-  }
+  chained = record { same = kept-same t; then = λ a b. kept-then a b }
 
   -- its own
   itself : {j : Kind} → endedBy s j ≡ t → 1 ≤ task s t .base → Seen s t j (stopped t s)
@@ -183,6 +178,9 @@ module _ (s : State) (k : Sound s) (t : ℕ) (low : 1 ≤ t) (top : t ≤ 24) wh
       s₀ : State
       s₀ = withTime ((time s + 1) % 2 ^ 32) s
 
+      timed : Kept t s s₀
+      timed = record { level = refl; entered = refl; active = refl; first = λ l f. f }
+
       k₀ : Sound s₀
       k₀ = sound-withTime s ((time s + 1) % 2 ^ 32) k
 
@@ -213,7 +211,7 @@ module _ (s : State) (k : Sound s) (t : ℕ) (low : 1 ≤ t) (top : t ≤ 24) wh
           named v e = task-in z (sound-orderly kz) levelOf level-none v (omega arith) .1
 
       go : Kept t s₀ z ⊎ Rotated t s₀ z → Kept t z s′ ⊎ Came t z s′ → Seen s t j s′
-      go (inl p) (inl q) = stays goes-on (record { level = q .level ∙ p .level; entered = q .entered ∙ p .entered; active = q .active ∙ p .active; first = λ l f. q .first l (p .first l f) })
+      go (inl p) (inl q) = stays goes-on (kept-then timed (kept-then p q))
       go (inl p) (inr q) = arrives (q .some) (λ e. omega (arith, q .some, sym (p .level) ∙ q .none, e)) (q .entered ∙ sym (a .clock))
       go (inr p) (inl q) =
           rotates (p .some) (q .level ∙ p .level) (p .was)

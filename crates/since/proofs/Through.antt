@@ -4,7 +4,7 @@ use mathlib.Core.Path.{_≡_, refl, sym, ap, _∙_}
 use mathlib.Core.Bool.{Bool, true, false, cond}
 use mathlib.Core.List.{List}
 use mathlib.Core.Logic.{_⊎_, inl, inr, ⊎-elim}
-use Prim.Native.Nat.{ℕ, _+_, _≤_, _<_, _-_}
+use Prim.Native.Nat.{ℕ, _≤_, _<_, _-_}
 use native.Mathlib.Omega.{arith}
 use lib.Dec.{eqb}
 use lib.ListN.{length}
@@ -47,11 +47,14 @@ pub record Through (t : ℕ) (s s′ : State) : Type 0 where
 pub kept-same : (t : ℕ) (s : State) → Kept t s s
 kept-same t s = record { level = refl; entered = refl; active = refl; first = λ l e. e }
 
+pub kept-then : {t : ℕ} {s₁ s₂ s₃ : State} → Kept t s₁ s₂ → Kept t s₂ s₃ → Kept t s₁ s₃
+kept-then a b = record { level = b .level ∙ a .level; entered = b .entered ∙ a .entered; active = b .active ∙ a .active; first = λ l e. b .first l (a .first l e) }
+
 then : {t : ℕ} {s₁ s₂ s₃ : State} → Through t s₁ s₂ → Through t s₂ s₃ → Through t s₁ s₃
 then {t} {s₁} {s₂} {s₃} a b = record { clock = b .clock ∙ a .clock; long = b .long ∙ a .long; fate = go (a .fate) (b .fate) }
   where
     go : Kept t s₁ s₂ ⊎ Came t s₁ s₂ → Kept t s₂ s₃ ⊎ Came t s₂ s₃ → Kept t s₁ s₃ ⊎ Came t s₁ s₃
-    go (inl p) (inl q) = inl (record { level = q .level ∙ p .level; entered = q .entered ∙ p .entered; active = q .active ∙ p .active; first = λ l e. q .first l (p .first l e) })
+    go (inl p) (inl q) = inl (kept-then p q)
     go (inl p) (inr q) = inr (record { none = sym (p .level) ∙ q .none; some = q .some; entered = q .entered ∙ a .clock })
     go (inr p) (inl q) = inr (record { none = p .none; some = rw (q .level) (p .some); entered = q .entered ∙ p .entered })
     go (inr p) (inr q) = absurd (omega (arith, p .some, q .none))

@@ -2,17 +2,16 @@
 -- It rests on `charged` of model/specs/Effect and on who runs (soundness).
 use mathlib.Core.Path.{_≡_, refl, sym, ap, _∙_}
 use mathlib.Core.Bool.{Bool, true, false, cond}
-use mathlib.Core.List.{List, [], _∷_, _++_}
+use mathlib.Core.List.{List, [], _∷_}
 use mathlib.Core.Logic.{_⊎_, inl, inr, ⊎-elim}
-use Prim.Native.Nat.{ℕ, suc, _+_, _≤_, _<_}
+use Prim.Native.Nat.{ℕ, _+_, _≤_, _<_}
 use native.Mathlib.Omega.{arith}
 use lib.Dec.{eqb, ltb}
-use lib.ListN.{length, getD, set}
+use lib.ListN.{length, getD}
 use lib.Seq.{getD-set-same, getD-set-other}
 use borrow.Author.Tests.{eq-eqb, ne-eqb}
-use Rattle.model.specs.declared.Task.{Task}
 use Rattle.model.specs.declared.State.{State}
-use Rattle.model.specs.Row.{place, gap, first, left, joined, turned, row, firstOf, secondOf, withRow}
+use Rattle.model.specs.Row.{place, gap, first, left, joined, turned, firstOf, secondOf}
 use Rattle.model.specs.Task.{noTask, levelOf, withMarks}
 use Rattle.model.specs.State.{task, slice, time, level, running, marked, recharged, rotated}
 use Rattle.model.specs.Effect.{turnedAt, chargedIn, charged}

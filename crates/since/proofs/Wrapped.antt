@@ -27,7 +27,7 @@ use Rattle.turns.specs.Tally.{Kernel, reachedBy}
 use Rattle.turns.specs.Statements.{next, Each, none, each}
 use Rattle.turns.proofs.Words.{byTask, aTick}
 use Rattle.turns.proofs.Same.{AnswersAsStep, sound-next}
-use Rattle.since.specs.Statements.{Entry, arrives, restarts, rotates, NoEntry, ticks, asked, Since, after, Wraps}
+use Rattle.since.specs.Statements.{Entry, arrives, restarts, rotates, NoEntry, ticks, Since, Wraps}
 use Rattle.since.proofs.Called.{counts-mod-by}
 
 creation : Context × Call

@@ -14,7 +14,7 @@ use Rattle.model.specs.declared.News.{News}
 use Rattle.model.specs.declared.News.the-variants.{Deleted}
 use Rattle.model.specs.Row.{place, first, firstOf}
 use Rattle.model.specs.Flag.{flagRow}
-use Rattle.model.specs.Task.{served, released, levelOf, waiting, ended, settled, aged}
+use Rattle.model.specs.Task.{served, released, levelOf, waiting, ended, aged}
 use Rattle.model.specs.State.{task, slice, time, level, waiters, running, moved, counted, flagged, withTime}
 use Rattle.model.specs.Code.{isRefusal}
 use Rattle.model.specs.Effect.{stopped, toldAll, deleted, toldFlag, charged, ticked, carried}
