@@ -5,6 +5,7 @@ use mathlib.Core.Bool.{not, _&&_}
 use mathlib.Core.List.{List, [], _∷_}
 use Prim.Native.Nat.{ℕ, _+_, _%_, _^_}
 use native.Mathlib.Nat.{mod-eq-of-lt}
+use native.Mathlib.Omega.{arith}
 use lib.Dec.{T as So}
 use Rattle.model.specs.declared.State.{State}
 use Rattle.model.specs.declared.Answer.{Answer}
@@ -80,7 +81,7 @@ module _ (k : Kernel) (same : AnswersAsStep k) where
 
   -- below 4,294,967,296 ticks it is all of them
   counts-by : CountsTheTicks k
-  counts-by t n h few = let a = counts-mod-by t n h in (a .0, a .1 ∙ mod-eq-of-lt few)
+  counts-by t n h few = let a = counts-mod-by t n h in (a .0, a .1 ∙ mod-eq-of-lt (omega (arith, few)))
 
 -- ---- of the step, and of the checked call
 pub counts-the-ticks : CountsTheTicks step

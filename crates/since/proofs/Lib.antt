@@ -5,3 +5,4 @@ pub mod Marks
 pub mod Exact
 pub mod Called
 pub mod Wrapped
+pub mod Cases

@@ -1,20 +1,16 @@
 -- What any moves do to one task's level and mark: it keeps both, and its place if it is first of its level; or it comes from no level into one, marked.
 -- So it goes for the moves that news and a tick make, which take nobody out of a level; it rests on the folds of soundness.
 use mathlib.Core.Path.{_≡_, refl, sym, ap, _∙_}
-use mathlib.Core.Bool.{Bool, true, false, cond}
 use mathlib.Core.List.{List}
 use mathlib.Core.Logic.{_⊎_, inl, inr, ⊎-elim}
-use Prim.Native.Nat.{ℕ, _≤_, _<_, _-_}
+use Prim.Native.Nat.{ℕ, _≤_, _<_}
 use native.Mathlib.Omega.{arith}
-use lib.Dec.{eqb}
 use lib.ListN.{length}
 use Rattle.model.specs.declared.Task.{Task}
 use Rattle.model.specs.declared.State.{State}
 use Rattle.model.specs.declared.News.{News}
-use Rattle.model.specs.declared.News.the-variants.{Deleted, Bits}
 use Rattle.model.specs.Row.{firstOf}
-use Rattle.model.specs.Flag.{isMet}
-use Rattle.model.specs.Task.{isTimed, ranOut, served, levelOf, settled, ended, withRemaining, aged, told}
+use Rattle.model.specs.Task.{levelOf, settled, aged, told}
 use Rattle.model.specs.State.{task, time, moved}
 use Rattle.model.specs.Effect.{toldAll, lapsed}
 use Rattle.laws.proofs.Number.{same?}
@@ -22,7 +18,7 @@ use Rattle.laws.proofs.Record.{level-settled, entry-new, entry-same}
 use Rattle.laws.proofs.Relisted.{relisted-kept}
 use Rattle.soundness.proofs.Listed.{first-relisted}
 use Rattle.soundness.proofs.Moved.{task-kept, task-moved, tasks-moved}
-use Rattle.soundness.proofs.Records.{told-live}
+use Rattle.soundness.proofs.Records.{told-keeps, aged-keeps}
 use Rattle.soundness.proofs.Folds.{Chained, by-news, by-fall}
 use Rattle.turns.proofs.Levels.{level-told, level-aged}
 use Rattle.since.specs.Statements.{levelIn}
@@ -114,34 +110,15 @@ module _ (t : ℕ) (some : 1 ≤ t) where
   }
 
   -- ---- news and the fall of timeouts
-  told-entered : (w : News) (x : Task) → told w x .entered ≡ x .entered
-  unfolding told
-  told-entered Deleted x = refl
-  told-entered (Bits b) x = go (isMet (x .wait .pattern) (x .wait .mode) b)
-    where
-      go : (met : Bool) → cond met (ended x served b) x .entered ≡ x .entered
-      go true = refl
-      go false = refl
-
   alike-told : (w : News) (x : Task) → Alike x (told w x)
-  alike-told w x = record { entered = told-entered w x; active = told-live w x; level = level-told w x }
+  alike-told w x = record { entered = told-keeps (λ (y : Task). y .entered) w x (λ v b. refl); active = told-keeps (λ (y : Task). y .active) w x (λ v b. refl); level = level-told w x }
 
   alike-aged : (x : Task) → Alike x (aged x)
-  unfolding aged
-  alike-aged x = record { entered = entered (isTimed x) (eqb (x .wait .remaining) 1); active = active (isTimed x) (eqb (x .wait .remaining) 1); level = level-aged x }
-    where
-      z : Bool → Bool → Task
-      z a b = cond a (cond b (ended x (ranOut x) 0) (withRemaining x (x .wait .remaining - 1))) x
-
-      entered : (a b : Bool) → z a b .entered ≡ x .entered
-      entered true true = refl
-      entered true false = refl
-      entered false b = refl
-
-      active : (a b : Bool) → z a b .active ≡ x .active
-      active true true = refl
-      active true false = refl
-      active false b = refl
+  alike-aged x = record {
+    entered = aged-keeps (λ (y : Task). y .entered) x (λ v b. refl) (λ d. refl);
+    active = aged-keeps (λ (y : Task). y .active) x (λ v b. refl) (λ d. refl);
+    level = level-aged x;
+  }
 
   pub through-told : (w : News) (q : List ℕ) (s : State) → t < length (s .tasks) → Through t s (toldAll w q s)
   through-told w q s = by-news chained w q s (λ z u low there. goes-moved z u (told w (task z u)) (λ e. rw e (alike-told w (task z t))))

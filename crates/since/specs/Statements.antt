@@ -1,5 +1,5 @@
 -- Request P10, 'when did it become ready?', over the transitions of demand 2: what it is to enter a level, seen from outside, and that
--- `ready_ticks` counts the ticks since. It is said of a kernel k, and proved of `step` and of the checked `call` (proofs/Exact, Called).
+-- `ready_ticks` counts the ticks since. It is said of a kernel k, and proved of `step` and of the checked `call` (proofs/Called, Wrapped).
 use mathlib.Core.Path.{_≡_}
 use mathlib.Core.Bool.{Bool, not, _&&_}
 use mathlib.Core.List.{List, [], _∷_}
@@ -61,9 +61,8 @@ ticks k s (a ∷ rest) = one (isAccepted k s a && isTick (kind (a .1))) + ticks 
 abbrev pub asked : Kernel → State → ℕ → Answer
 asked k s t = k s T (ReadyTicks t)
 
--- Task t enters its level by the call a. Then come other calls, at none of which it enters again, with n accepted ticks among them; and it has
--- not ended. Then the answer is n, while n is below 4,294,967,296. (The time is a 32-bit number in every state that a caller can hand over; the
--- definitions do not bound it.)
+-- A run: task t enters its level by one call, the entry; then come calls at none of which it enters again, with n accepted ticks among them, and
+-- it has not ended. (The time is a 32-bit number in every state that a caller can hand over; the definitions do not bound it.)
 pub record Since (k : Kernel) (t n : ℕ) : Type 0 where
   pub before : State
   pub entry : Context × Call
@@ -79,6 +78,7 @@ pub record Since (k : Kernel) (t n : ℕ) : Type 0 where
 abbrev pub after : {k : Kernel} {t n : ℕ} → Since k t n → State
 after {k} h = reachedBy k (next k (h .before) (h .entry)) (h .calls)
 
+-- after such a run the answer is n, while n is below 4,294,967,296
 abbrev pub CountsTheTicks : Kernel → Type 0
 CountsTheTicks k = (t n : ℕ) (h : Since k t n) → n < 2 ^ 32 → (asked k (after h) t .code ≡ NoErr) × (asked k (after h) t .value ≡ n)
 

@@ -150,14 +150,25 @@ told-stays (Bits b) x = go (isMet (x .wait .pattern) (x .wait .mode) b) refl
     go true e = inl refl
     go false e = inr (e, refl)
 
-pub told-live : (w : News) (x : Task) → told w x .active ≡ x .active
-unfolding told
-told-live Deleted x = refl
-told-live (Bits b) x = go (isMet (x .wait .pattern) (x .wait .mode) b)
-  where
-    go : (met : Bool) → cond met (ended x served b) x .active ≡ x .active
-    go true = refl
-    go false = refl
+-- what the end of a wait leaves as it is, news leave too; and so does a tick, where a timeout that falls leaves it
+module _ {A : Type 0} (of : Task → A) where
+  pub told-keeps : (w : News) (x : Task) → ((v b : ℕ) → of (ended x v b) ≡ of x) → of (told w x) ≡ of x
+  unfolding told
+  told-keeps Deleted x ends = ends dlt 0
+  told-keeps (Bits b) x ends = go (isMet (x .wait .pattern) (x .wait .mode) b)
+    where
+      go : (met : Bool) → of (cond met (ended x served b) x) ≡ of x
+      go true = ends served b
+      go false = refl
+
+  pub aged-keeps : (x : Task) → ((v b : ℕ) → of (ended x v b) ≡ of x) → ((d : ℕ) → of (withRemaining x d) ≡ of x) → of (aged x) ≡ of x
+  unfolding aged
+  aged-keeps x ends falls = go (isTimed x) (eqb (x .wait .remaining) 1)
+    where
+      go : (a b : Bool) → of (cond a (cond b (ended x (ranOut x) 0) (withRemaining x (x .wait .remaining - 1))) x) ≡ of x
+      go true true = ends (ranOut x) 0
+      go true false = falls (x .wait .remaining - 1)
+      go false b = refl
 
 -- ---- a tick's
 code-out : (x : Task) → So (isWaitCode (ranOut x))

@@ -23,7 +23,7 @@ use Rattle.laws.proofs.Record.{row-none, row-settled}
 use Rattle.soundness.proofs.Listed.{key-of, key-first, listed-in}
 use Rattle.soundness.proofs.Orderly.{sound-orderly, task-in, task-cases}
 use Rattle.soundness.proofs.Changes.{MayWait, sound-moved}
-use Rattle.soundness.proofs.Records.{WaitsAs, Stays, stays-marks, told-stays, told-live, row-live, sound-told}
+use Rattle.soundness.proofs.Records.{WaitsAs, Stays, stays-marks, told-stays, told-keeps, row-live, sound-told}
 
 -- ---- who may wait
 pub may-none : (s : State) (t : ℕ) (x : Task) → rowOf x ≡ 0 → MayWait s t x
@@ -82,7 +82,7 @@ module _ (w : News) (m : ℕ) (some : 1 ≤ m) where
     ends = padded-rest t q (k .ends);
     lives = λ u h there.
         let o = k .lives u h (omega (arith, occ-cons u t q)) in
-        (o .0, cases (λ y. 1 ≤ y .active) u (λ e. omega (arith, told-live w (task s t), first .1)) (λ other. o .1));
+        (o .0, cases (λ y. 1 ≤ y .active) u (λ e. omega (arith, told-keeps (λ (y : Task). y .active) w (task s t) (λ v b. refl), first .1)) (λ other. o .1));
     holds = λ u h. cases (λ y. rowOf y ≡ m → (1 ≤ occ u q) ⊎ Stays w y) u (λ e f. inr (stays-marks w x (settled (time s) (task s t) x .charge) (settled (time s) (task s t) x .entered) (here (sym (row-settled (time s) (task s t) x) ∙ f)))) (λ other f. behind u other (k .holds u h f));
   }
     where

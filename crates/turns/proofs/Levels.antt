@@ -2,17 +2,15 @@
 -- It rests on the records of model/specs/Task.
 use mathlib.Core.Path.{_≡_, refl}
 use mathlib.Core.Bool.{Bool, true, false, cond, not, _&&_}
-use Prim.Native.Nat.{ℕ, _-_, _≤_}
-use lib.Dec.{T as So, eqb}
+use Prim.Native.Nat.{ℕ, _≤_}
+use lib.Dec.{T as So}
 use Rattle.model.specs.declared.Task.{Task}
 use Rattle.model.specs.declared.News.{News}
-use Rattle.model.specs.declared.News.the-variants.{Deleted, Bits}
-use Rattle.model.specs.Flag.{isMet}
-use Rattle.model.specs.Task.{isDormant, isSuspended, isWaiting, isRunnable, isTimed, ranOut, served, dlt, levelOf, ended, withRemaining, aged, told}
+use Rattle.model.specs.Task.{isDormant, isSuspended, isWaiting, isRunnable, levelOf, ended, aged, told}
 use Rattle.model.specs.Sound.{SoundTask}
 use Rattle.laws.proofs.Padded.{both}
 use Rattle.ways.proofs.Tests.{some-of}
-use Rattle.soundness.proofs.Records.{level-live, live-made}
+use Rattle.soundness.proofs.Records.{level-live, live-made, told-keeps, aged-keeps}
 
 pub level-runnable : (x : Task) (l : ℕ) → So (isRunnable x) → x .priority ≡ l → levelOf x ≡ l
 unfolding levelOf
@@ -31,19 +29,7 @@ pub level-ended : (x : Task) (v b : ℕ) → 1 ≤ levelOf x → levelOf (ended 
 level-ended x v b h = let e = level-live x h .1 in unfold levelOf in rw e
 
 pub level-told : (w : News) (x : Task) → 1 ≤ levelOf x → levelOf (told w x) ≡ levelOf x
-unfolding told
-level-told Deleted x h = level-ended x dlt 0 h
-level-told (Bits b) x h = go (isMet (x .wait .pattern) (x .wait .mode) b)
-  where
-    go : (met : Bool) → levelOf (cond met (ended x served b) x) ≡ levelOf x
-    go true = level-ended x served b h
-    go false = refl
+level-told w x h = told-keeps levelOf w x (λ v b. level-ended x v b h)
 
 pub level-aged : (x : Task) → 1 ≤ levelOf x → levelOf (aged x) ≡ levelOf x
-unfolding aged
-level-aged x h = go (isTimed x) (eqb (x .wait .remaining) 1)
-  where
-    go : (a b : Bool) → levelOf (cond a (cond b (ended x (ranOut x) 0) (withRemaining x (x .wait .remaining - 1))) x) ≡ levelOf x
-    go true true = level-ended x (ranOut x) 0 h
-    go true false = unfold levelOf in refl
-    go false b = refl
+level-aged x h = aged-keeps levelOf x (λ v b. level-ended x v b h) (λ d. unfold levelOf in refl)
