@@ -36,7 +36,7 @@ unfoldable pub keyed : (List ℕ → ℕ) → List Service → ℕ → ℕ → L
 keyed f [] k h s = Unknown
 keyed f (x ∷ xs) k h s =
     let more = keyed f xs (k + 1) h s in
-    cond (x .inLists && eqb (f (label x)) h) (cond (begins s (label x)) (Known k (length (x .fields)) (length (label x))) more) more
+    cond (x .inLists && eqb (f (label x)) h) (cond (begins s (label x)) (Known k (length (label x))) more) more
 
 -- none of another key is looked at in vain
 by-key : (f : List ℕ → ℕ) → Early f → (xs : List Service) → So (long xs) → (k : ℕ) (s : List ℕ) → keyed f xs k (f s) s ≡ nameIn xs k s
@@ -46,7 +46,7 @@ by-key f early (x ∷ xs) t k s =
     go (x .inLists) (both-left (isLong x) (long xs) t) (begins s (label x)) refl (eqb (f (label x)) (f s)) refl (by-key f early xs (both-right (isLong x) (long xs) t) (k + 1) s)
   where
     here : Name
-    here = Known k (length (x .fields)) (length (label x))
+    here = Known k (length (label x))
 
     go : (i : Bool) → So (implies i (leb 13 (length (label x)))) → (b : Bool) → begins s (label x) ≡ b → (d : Bool) → eqb (f (label x)) (f s) ≡ d
         → keyed f xs (k + 1) (f s) s ≡ nameIn xs (k + 1) s
@@ -106,7 +106,7 @@ no-key f ks (x ∷ xs) t k h s r =
     go (x .inLists) (both-left (implies (x .inLists) (has ks (f (label x)))) (covered f ks xs) t) (no-key f ks xs (both-right (implies (x .inLists) (has ks (f (label x)))) (covered f ks xs) t) (k + 1) h s r)
   where
     go : (i : Bool) → So (implies i (has ks (f (label x)))) → Unknown ≡ keyed f xs (k + 1) h s
-        → Unknown ≡ cond (i && eqb (f (label x)) h) (cond (begins s (label x)) (Known k (length (x .fields)) (length (label x))) (keyed f xs (k + 1) h s)) (keyed f xs (k + 1) h s)
+        → Unknown ≡ cond (i && eqb (f (label x)) h) (cond (begins s (label x)) (Known k (length (label x))) (keyed f xs (k + 1) h s)) (keyed f xs (k + 1) h s)
     go true g ih = rw (ne-eqb (f (label x)) h (λ q. none-is ks h Unit r (f (label x)) g (sym q))) ih
     go false g ih = ih
 

@@ -20,7 +20,7 @@ use Rattle.services.specs.Calls.{isService, asked}
 use Rattle.services.proofs.Table.{table-size}
 
 abbrev pub OfService : Name → Type 0
-OfService (Known k n i) = isService k ≡ true
+OfService (Known k i) = isService k ≡ true
 OfService Unknown = Unit
 
 in-range : (k : ℕ) → 1 ≤ k → k ≤ 33 → isService k ≡ true
@@ -31,7 +31,7 @@ name-among : (xs : List Service) (k : ℕ) (s : List ℕ) → 1 ≤ k → k + le
 unfolding nameIn
 name-among [] k s h g = tt
 name-among (x ∷ xs) k s h g =
-    cond-by OfService (begun s x) (Known k (length (x .fields)) (length (label x))) (nameIn xs (k + 1) s)
+    cond-by OfService (begun s x) (Known k (length (label x))) (nameIn xs (k + 1) s)
     (λ e. in-range k h (omega arith)) (name-among xs (k + 1) s (omega arith) (omega arith))
 
 pub name-known : (s : List ℕ) → OfService (nameOf s)

@@ -46,7 +46,7 @@ abbrev pub upFrom : ℕ → ℕ → List ℕ
 upFrom i zero = []
 upFrom i (suc n) = i ∷ upFrom (suc i) n
 
-above : (n i x : ℕ) (N : Type 0) → Rest (upFrom i n) x N → i ≤ x → i + n ≤ x
+pub above : (n i x : ℕ) (N : Type 0) → Rest (upFrom i n) x N → i ≤ x → i + n ≤ x
 above zero i x N r h = omega arith
 above (suc n) i x N r h =
     let m = out (upFrom (suc i) n) x (N × (x ≡ i → ⊥)) r .1 in

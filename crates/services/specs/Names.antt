@@ -13,9 +13,9 @@ use Rattle.services.specs.declared.names.Name.the-variants.{Known, Unkno
 unfoldable pub label : Service → List ℕ
 label x = bytes (x .name) ++ bytes ","
 
--- the service of the number k, which takes n numbers, if its label t begins s
-unfoldable pub labelled : List ℕ → List ℕ → ℕ → ℕ → Name
-labelled s t k n = cond (begins s t) (Known k n (length t)) Unknown
+-- the service of the number k, if its label t begins s
+unfoldable pub labelled : List ℕ → List ℕ → ℕ → Name
+labelled s t k = cond (begins s t) (Known k (length t)) Unknown
 
 -- lists hold its name, and its label begins s
 abbrev pub begun : List ℕ → Service → Bool
@@ -24,7 +24,7 @@ begun s x = x .inLists && begins s (label x)
 -- the first of the services from the number k on whose label so begins s
 unfoldable pub nameIn : List Service → ℕ → List ℕ → Name
 nameIn [] k s = Unknown
-nameIn (x ∷ xs) k s = cond (begun s x) (Known k (length (x .fields)) (length (label x))) (nameIn xs (k + 1) s)
+nameIn (x ∷ xs) k s = cond (begun s x) (Known k (length (label x))) (nameIn xs (k + 1) s)
 
 unfoldable pub nameOf : List ℕ → Name
 nameOf s = nameIn services 1 s

@@ -6,20 +6,19 @@ ghost use Rattle.services.specs.Names.{labelled, nameIn, nameOf};
 use text::words::begins;
 use text::words::byte_at;
 
-// A service by its number in the table, how many numbers it takes, and the length of its name with the comma.
+// A service by its number in the table, and the length of its name with the comma.
 pub enum Name {
-    Known { number: u32, takes: u8, next: usize },
+    Known { number: u32, next: usize },
     Unknown,
 }
 
 // The service of that number, if its name with the comma, t, begins s.
-fn labelled(s: &[u8], t: &[u8], number: u32, takes: u8) -> Name
-    ensures { λ r. ⌜ r ≡ labelled (now (s .entry)) (now (t .entry)) number takes ⌝ }
+fn labelled(s: &[u8], t: &[u8], number: u32) -> Name
+    ensures { λ r. ⌜ r ≡ labelled (now (s .entry)) (now (t .entry)) number ⌝ }
 {
     if begins(s, t) {
         return Name::Known {
             number,
-            takes,
             next: t.len(),
         };
     }
@@ -32,20 +31,20 @@ fn task_name(s: &[u8]) -> Name
 {
     let key = byte_at(s, 8) as u32 + byte_at(s, 11) as u32;
     match key {
-        196 => labelled(s, b"tn_task_create,", 1, 3),
-        201 => labelled(s, b"tn_task_delete,", 2, 1),
-        202 => labelled(s, b"tn_task_activate,", 3, 1),
-        221 => labelled(s, b"tn_task_iactivate,", 4, 1),
-        217 => labelled(s, b"tn_task_exit,", 5, 0),
-        225 => labelled(s, b"tn_task_terminate,", 6, 1),
-        227 => labelled(s, b"tn_task_suspend,", 7, 1),
-        231 => labelled(s, b"tn_task_resume,", 8, 1),
-        216 => labelled(s, b"tn_task_sleep,", 9, 1),
-        220 => labelled(s, b"tn_task_wakeup,", 10, 1),
-        212 => labelled(s, b"tn_task_iwakeup,", 11, 1),
-        215 => labelled(s, b"tn_task_release_wait,", 12, 1),
-        213 => labelled(s, b"tn_task_irelease_wait,", 13, 1),
-        209 => labelled(s, b"tn_task_change_priority,", 14, 2),
+        196 => labelled(s, b"tn_task_create,", 1),
+        201 => labelled(s, b"tn_task_delete,", 2),
+        202 => labelled(s, b"tn_task_activate,", 3),
+        221 => labelled(s, b"tn_task_iactivate,", 4),
+        217 => labelled(s, b"tn_task_exit,", 5),
+        225 => labelled(s, b"tn_task_terminate,", 6),
+        227 => labelled(s, b"tn_task_suspend,", 7),
+        231 => labelled(s, b"tn_task_resume,", 8),
+        216 => labelled(s, b"tn_task_sleep,", 9),
+        220 => labelled(s, b"tn_task_wakeup,", 10),
+        212 => labelled(s, b"tn_task_iwakeup,", 11),
+        215 => labelled(s, b"tn_task_release_wait,", 12),
+        213 => labelled(s, b"tn_task_irelease_wait,", 13),
+        209 => labelled(s, b"tn_task_change_priority,", 14),
         _ => Name::Unknown,
     }
 }
@@ -55,13 +54,13 @@ fn semaphore_name(s: &[u8]) -> Name
 {
     let key = byte_at(s, 8);
     match key {
-        b'r' => labelled(s, b"tn_sem_create,", 17, 3),
-        b'e' => labelled(s, b"tn_sem_delete,", 18, 1),
-        b'i' => labelled(s, b"tn_sem_signal,", 19, 1),
-        b's' => labelled(s, b"tn_sem_isignal,", 20, 1),
-        b'c' => labelled(s, b"tn_sem_acquire,", 21, 2),
-        b'o' => labelled(s, b"tn_sem_polling,", 22, 1),
-        b'p' => labelled(s, b"tn_sem_ipolling,", 23, 1),
+        b'r' => labelled(s, b"tn_sem_create,", 17),
+        b'e' => labelled(s, b"tn_sem_delete,", 18),
+        b'i' => labelled(s, b"tn_sem_signal,", 19),
+        b's' => labelled(s, b"tn_sem_isignal,", 20),
+        b'c' => labelled(s, b"tn_sem_acquire,", 21),
+        b'o' => labelled(s, b"tn_sem_polling,", 22),
+        b'p' => labelled(s, b"tn_sem_ipolling,", 23),
         _ => Name::Unknown,
     }
 }
@@ -71,23 +70,22 @@ fn flag_name(s: &[u8]) -> Name
 {
     let key = byte_at(s, 10) as u32 + byte_at(s, 12) as u32;
     match key {
-        211 => labelled(s, b"tn_event_create,", 24, 3),
-        202 => labelled(s, b"tn_event_delete,", 25, 1),
-        145 => labelled(s, b"tn_event_set,", 26, 2),
-        231 => labelled(s, b"tn_event_iset,", 27, 2),
-        205 => labelled(s, b"tn_event_clear,", 28, 2),
-        200 => labelled(s, b"tn_event_iclear,", 29, 2),
+        211 => labelled(s, b"tn_event_create,", 24),
+        202 => labelled(s, b"tn_event_delete,", 25),
+        145 => labelled(s, b"tn_event_set,", 26),
+        231 => labelled(s, b"tn_event_iset,", 27),
+        205 => labelled(s, b"tn_event_clear,", 28),
+        200 => labelled(s, b"tn_event_iclear,", 29),
         213 => {
             if begins(s, b"tn_event_wait,") {
                 return Name::Known {
                     number: 30,
-                    takes: 4,
                     next: 14,
                 };
             }
-            labelled(s, b"tn_event_wait_polling,", 31, 3)
+            labelled(s, b"tn_event_wait_polling,", 31)
         }
-        224 => labelled(s, b"tn_event_iwait,", 32, 3),
+        224 => labelled(s, b"tn_event_iwait,", 32),
         _ => Name::Unknown,
     }
 }
@@ -98,8 +96,8 @@ pub fn read_name(s: &[u8]) -> Name
     let key = byte_at(s, 4);
     match key {
         b'a' => task_name(s),
-        b'y' => labelled(s, b"tn_sys_tslice_ticks,", 15, 2),
-        b'i' => labelled(s, b"tn_tick_int_processing,", 16, 0),
+        b'y' => labelled(s, b"tn_sys_tslice_ticks,", 15),
+        b'i' => labelled(s, b"tn_tick_int_processing,", 16),
         b'e' => semaphore_name(s),
         b'v' => flag_name(s),
         _ => Name::Unknown,
