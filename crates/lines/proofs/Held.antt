@@ -21,6 +21,6 @@ unfolding lineOf
 ready-ticks-unreadable wide s e = go (letterOf s) (no-list-holds-ready-ticks (drop 2 s) e)
   where
     go : (t : Letter) → nameOf (drop 2 s) ≡ Unknown
-        → letterThen t (λ x. nameThen (nameOf (drop 2 s)) (λ k takes n. fieldsThen (fieldsOf wide takes (drop (2 + n) s)) (λ a b c d m. Reads x (service k .call a b c d) (2 + n + m)))) ≡ Unreadable
+        → letterThen t (λ x. nameThen (nameOf (drop 2 s)) (λ k n. fieldsThen (fieldsOf wide k (drop (2 + n) s)) (λ a b c d m. Reads x (service k .call a b c d) (2 + n + m)))) ≡ Unreadable
     go (Is x) q = rw q
     go NoLetter q = refl

@@ -4,7 +4,7 @@ use Prim.Native.Nat.{ℕ, _+_, _*_, _≤_}
 use mathlib.Core.Bool.{Bool, true, false, cond}
 use mathlib.Core.List.{List, [], _∷_}
 use native.Mathlib.Omega.{arith}
-use lib.Dec.{T as So, ltb, eqb}
+use lib.Dec.{T as So, eqb}
 use lib.ListN.{length, getD, drop}
 use Rattle.text.specs.declared.number.Number.{Number}
 use Rattle.text.specs.declared.number.Number.the-variants.{Digits, NoNumber}
@@ -16,6 +16,9 @@ use Rattle.model.proofs.Words.{table}
 use Rattle.services.specs.declared.names.Name.{Name}
 use Rattle.services.specs.declared.names.Name.the-variants.{Known, Unknown}
 use Rattle.services.specs.Names.{label, begun, nameIn, nameOf}
+use Rattle.services.specs.declared.takes.Takes.{Takes}
+use Rattle.services.specs.declared.takes.Takes.the-variants.{Blank, Plain, Timeout}
+use Rattle.services.specs.Takes.{takesAt}
 use Rattle.lines.specs.declared.fields.End.{End}
 use Rattle.lines.specs.declared.fields.End.the-variants.{Closes, NoEnd}
 use Rattle.lines.specs.declared.fields.Tail.{Tail}
@@ -28,7 +31,7 @@ use Rattle.lines.specs.declared.line.Line.{Line}
 use Rattle.lines.specs.declared.line.Line.the-variants.{Reads, Unreadable}
 use Rattle.lines.specs.declared.line.Header.{Header}
 use Rattle.lines.specs.declared.line.Header.the-variants.{Ends, NoHeader}
-use Rattle.lines.specs.Fields.{fieldOf, numberThen, commaField, endOf, lastField, tailField, narrowTail, wideTail, tailOf, fieldThen, tailThen, fieldsOf}
+use Rattle.lines.specs.Fields.{fieldOf, numberThen, commaField, endOf, lastField, tailField, ifBlank, narrowTail, wideTail, tailOf, fieldThen, tailThen, fieldsOf}
 use Rattle.lines.specs.Lines.{letterOf, letterThen, nameThen, fieldsThen, lineOf, headerEndThen, headed, headerOf}
 use Rattle.services.proofs.Numbers.{both-left, both-right}
 use Rattle.services.proofs.Held.{isLong, begun-long}
@@ -36,7 +39,7 @@ use Rattle.services.proofs.Keys.{long}
 
 -- each answer's length is at least that
 abbrev pub NameHas : Name → Type 0
-NameHas (Known k takes i) = 13 ≤ i
+NameHas (Known k i) = 13 ≤ i
 NameHas Unknown = Unit
 
 abbrev pub NumberHas : Number → Type 0
@@ -67,54 +70,55 @@ name-among : (xs : List Service) → So (long xs) → (k : ℕ) (s : List ℕ) �
 unfolding nameIn long
 name-among [] t k s = tt
 name-among (x ∷ xs) t k s =
-    cond-by NameHas (begun s x) (Known k (length (x .fields)) (length (label x))) (nameIn xs (k + 1) s)
+    cond-by NameHas (begun s x) (Known k (length (label x))) (nameIn xs (k + 1) s)
     (begun-long s x (both-left (isLong x) (long xs) t)) (name-among xs (both-right (isLong x) (long xs) t) (k + 1) s)
 
 pub name-has : (s : List ℕ) → NameHas (nameOf s)
 unfolding nameOf table long label
 name-has s = name-among services tt 1 s
 
-pub comma-has : (used : Bool) (s : List ℕ) → NumberHas (commaField used s)
+pub comma-has : (takes : Takes) (s : List ℕ) → NumberHas (commaField takes s)
 unfolding commaField
-comma-has used s = go (fieldOf used s)
+comma-has takes s = go (fieldOf takes s)
   where
     go : (t : Number) → NumberHas (numberThen t (λ v n. cond (eqb (getD s n 0) 44) (Digits v (n + 1)) NoNumber))
     go (Digits v n) = cond-by NumberHas (eqb (getD s n 0) 44) (Digits v (n + 1)) NoNumber (λ e. omega arith) tt
     go NoNumber = tt
 
-tail-has : (wide : Bool) (takes : ℕ) (s : List ℕ) → TailHas wide (tailOf wide takes s)
+tail-has : (wide : Bool) (n : ℕ) (s : List ℕ) → TailHas wide (tailOf wide n s)
 unfolding tailOf wideTail narrowTail
-tail-has true takes s = first (commaField (ltb 2 takes) s) (comma-has (ltb 2 takes) s)
+tail-has true n s = first (commaField (takesAt n 2) s) (comma-has (takesAt n 2) s)
   where
     second : (c i : ℕ) → 1 ≤ i → (t : Number) → TailHas true (tailField t (λ d j. Two c d (i + j)))
     second c i h (Digits d j) = omega arith
     second c i h NoNumber = tt
 
-    first : (t : Number) → NumberHas t → TailHas true (tailField t (λ c i. tailField (lastField (ltb 3 takes) (drop i s)) (λ d j. Two c d (i + j))))
-    first (Digits c i) g = second c i g (lastField (ltb 3 takes) (drop i s))
+    first : (t : Number) → NumberHas t → TailHas true (tailField t (λ c i. tailField (lastField (takesAt n 3) (drop i s)) (λ d j. Two c d (i + j))))
+    first (Digits c i) g = second c i g (lastField (takesAt n 3) (drop i s))
     first NoNumber g = tt
-tail-has false takes s = go (ltb 3 takes) (lastField (ltb 2 takes) s)
+tail-has false n s = go (takesAt n 3) (lastField (takesAt n 2) s)
   where
-    go : (b : Bool) (t : Number) → TailHas false (cond b NoTail (tailField t (λ c i. Two c 0 i)))
-    go true t = tt
-    go false (Digits c i) = omega arith
-    go false NoNumber = tt
+    go : (d : Takes) (t : Number) → TailHas false (ifBlank d (tailField t (λ c i. Two c 0 i)))
+    go Blank (Digits c i) = omega arith
+    go Blank NoNumber = tt
+    go Plain t = tt
+    go Timeout t = tt
 
-fields-has : (wide : Bool) (takes : ℕ) (s : List ℕ) → FieldsHas wide (fieldsOf wide takes s)
+fields-has : (wide : Bool) (n : ℕ) (s : List ℕ) → FieldsHas wide (fieldsOf wide n s)
 unfolding fieldsOf
-fields-has wide takes s = first (commaField (ltb 0 takes) s) (comma-has (ltb 0 takes) s)
+fields-has wide n s = first (commaField (takesAt n 0) s) (comma-has (takesAt n 0) s)
   where
     third : (a b i : ℕ) → 2 ≤ i → (t : Tail) → TailHas wide t → FieldsHas wide (tailThen t (λ c d k. Four a b c d (i + k)))
     third a b i h (Two c d k) g = omega arith
     third a b i h NoTail g = tt
 
-    second : (a i : ℕ) → 1 ≤ i → (t : Number) → NumberHas t → FieldsHas wide (fieldThen t (λ b j. tailThen (tailOf wide takes (drop (i + j) s)) (λ c d k. Four a b c d (i + j + k))))
-    second a i h (Digits b j) g = third a b (i + j) (omega arith) (tailOf wide takes (drop (i + j) s)) (tail-has wide takes (drop (i + j) s))
+    second : (a i : ℕ) → 1 ≤ i → (t : Number) → NumberHas t → FieldsHas wide (fieldThen t (λ b j. tailThen (tailOf wide n (drop (i + j) s)) (λ c d k. Four a b c d (i + j + k))))
+    second a i h (Digits b j) g = third a b (i + j) (omega arith) (tailOf wide n (drop (i + j) s)) (tail-has wide n (drop (i + j) s))
     second a i h NoNumber g = tt
 
     first : (t : Number) → NumberHas t
-        → FieldsHas wide (fieldThen t (λ a i. fieldThen (commaField (ltb 1 takes) (drop i s)) (λ b j. tailThen (tailOf wide takes (drop (i + j) s)) (λ c d k. Four a b c d (i + j + k)))))
-    first (Digits a i) g = second a i g (commaField (ltb 1 takes) (drop i s)) (comma-has (ltb 1 takes) (drop i s))
+        → FieldsHas wide (fieldThen t (λ a i. fieldThen (commaField (takesAt n 1) (drop i s)) (λ b j. tailThen (tailOf wide n (drop (i + j) s)) (λ c d k. Four a b c d (i + j + k)))))
+    first (Digits a i) g = second a i g (commaField (takesAt n 1) (drop i s)) (comma-has (takesAt n 1) (drop i s))
     first NoNumber g = tt
 
 pub line-has : (wide : Bool) (s : List ℕ) → LineHas wide (lineOf wide s)
@@ -125,11 +129,11 @@ line-has wide s = first (letterOf s)
     third x k i h (Four a b c d m) g = omega arith
     third x k i h NoFields g = tt
 
-    second : (x : Context) (t : Name) → NameHas t → LineHas wide (nameThen t (λ k takes n. fieldsThen (fieldsOf wide takes (drop (2 + n) s)) (λ a b c d m. Reads x (service k .call a b c d) (2 + n + m))))
-    second x (Known k takes n) g = third x k (2 + n) (omega arith) (fieldsOf wide takes (drop (2 + n) s)) (fields-has wide takes (drop (2 + n) s))
+    second : (x : Context) (t : Name) → NameHas t → LineHas wide (nameThen t (λ k n. fieldsThen (fieldsOf wide k (drop (2 + n) s)) (λ a b c d m. Reads x (service k .call a b c d) (2 + n + m))))
+    second x (Known k n) g = third x k (2 + n) (omega arith) (fieldsOf wide k (drop (2 + n) s)) (fields-has wide k (drop (2 + n) s))
     second x Unknown g = tt
 
-    first : (t : Letter) → LineHas wide (letterThen t (λ x. nameThen (nameOf (drop 2 s)) (λ k takes n. fieldsThen (fieldsOf wide takes (drop (2 + n) s)) (λ a b c d m. Reads x (service k .call a b c d) (2 + n + m)))))
+    first : (t : Letter) → LineHas wide (letterThen t (λ x. nameThen (nameOf (drop 2 s)) (λ k n. fieldsThen (fieldsOf wide k (drop (2 + n) s)) (λ a b c d m. Reads x (service k .call a b c d) (2 + n + m)))))
     first (Is x) = second x (nameOf (drop 2 s)) (name-has (drop 2 s))
     first NoLetter = tt
 

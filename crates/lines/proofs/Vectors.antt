@@ -11,11 +11,12 @@ use Rattle.model.specs.declared.Call.the-variants.{TaskCreate, TaskExit, TaskSl
 use Rattle.model.specs.declared.FlagService.the-variants.{Create, Wait, WaitPolling, Iwait}
 use Rattle.model.proofs.Words.{table}
 use Rattle.services.specs.Names.{label, nameIn, nameOf}
+use Rattle.services.specs.Takes.{takesIn, takesAt}
 use Rattle.lines.specs.declared.line.Line.{Line}
 use Rattle.lines.specs.declared.line.Line.the-variants.{Reads, Unreadable}
 use Rattle.lines.specs.declared.line.Header.{Header}
 use Rattle.lines.specs.declared.line.Header.the-variants.{Ends, NoHeader}
-use Rattle.lines.specs.Fields.{fieldOf, commaField, endOf, lastField, narrowTail, wideTail, tailOf, fieldsOf}
+use Rattle.lines.specs.Fields.{saidOf, fieldOf, commaField, endOf, lastField, narrowTail, wideTail, tailOf, fieldsOf}
 use Rattle.lines.specs.Lines.{letterOf, lineOf, headed, headerOf}
 
 infix 20 _reads_
@@ -100,11 +101,11 @@ wideRows =
     ∷ []
 
 pub lines-read : given false rows ≡ wanted rows
-unfolding rows lineOf letterOf nameOf nameIn label table fieldsOf tailOf narrowTail fieldOf commaField lastField endOf numberOf numeral valueAfter digits isDigit begins
+unfolding rows lineOf letterOf nameOf nameIn label table fieldsOf tailOf narrowTail takesAt takesIn fieldOf saidOf commaField lastField endOf numberOf numeral valueAfter digits isDigit begins
 lines-read = refl
 
 pub wide-lines-read : given true wideRows ≡ wanted wideRows
-unfolding wideRows lineOf letterOf nameOf nameIn label table fieldsOf tailOf wideTail fieldOf commaField lastField endOf numberOf numeral valueAfter digits isDigit begins
+unfolding wideRows lineOf letterOf nameOf nameIn label table fieldsOf tailOf wideTail takesAt takesIn fieldOf saidOf commaField lastField endOf numberOf numeral valueAfter digits isDigit begins
 wide-lines-read = refl
 
 abbrev pub headers : List Header

@@ -31,8 +31,8 @@ abbrev pub letterThen : Letter → (Context → Line) → Line
 letterThen (Is x) f = f x
 letterThen NoLetter f = Unreadable
 
-abbrev pub nameThen : Name → (ℕ → ℕ → ℕ → Line) → Line
-nameThen (Known k takes n) f = f k takes n
+abbrev pub nameThen : Name → (ℕ → ℕ → Line) → Line
+nameThen (Known k n) f = f k n
 nameThen Unknown f = Unreadable
 
 abbrev pub fieldsThen : Fields → (ℕ → ℕ → ℕ → ℕ → ℕ → Line) → Line
@@ -43,8 +43,8 @@ fieldsThen NoFields f = Unreadable
 unfoldable pub lineOf : Bool → List ℕ → Line
 lineOf wide s =
     letterThen (letterOf s) (λ x.
-    nameThen (nameOf (drop 2 s)) (λ k takes n.
-    fieldsThen (fieldsOf wide takes (drop (2 + n) s)) (λ a b c d m.
+    nameThen (nameOf (drop 2 s)) (λ k n.
+    fieldsThen (fieldsOf wide k (drop (2 + n) s)) (λ a b c d m.
     Reads x (service k .call a b c d) (2 + n + m))))
 
 abbrev pub headerEndThen : End → (ℕ → Header) → Header

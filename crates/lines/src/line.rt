@@ -60,12 +60,7 @@ pub fn read_line(s: &[u8], wide: bool) -> Line
     let Letter::Is { context } = read_letter(s) else {
         return Line::Unreadable;
     };
-    let Name::Known {
-        number,
-        takes,
-        next,
-    } = read_name(&s[2..])
-    else {
+    let Name::Known { number, next } = read_name(&s[2..]) else {
         return Line::Unreadable;
     };
     let at = 2 + next;
@@ -75,7 +70,7 @@ pub fn read_line(s: &[u8], wide: bool) -> Line
         c,
         d,
         next: rest,
-    } = read_fields(&s[at..], wide, takes)
+    } = read_fields(&s[at..], wide, number)
     else {
         return Line::Unreadable;
     };

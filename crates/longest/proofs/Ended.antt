@@ -4,7 +4,7 @@ use Prim.Native.Nat.{ℕ, _+_, _*_, _<_, _≤_}
 use mathlib.Core.Bool.{Bool, true, false, cond}
 use mathlib.Core.List.{List}
 use native.Mathlib.Omega.{arith}
-use lib.Dec.{ltb, eqb}
+use lib.Dec.{eqb}
 use lib.ListN.{length, drop, length-drop}
 use borrow.Author.Tests.{eqb-true}
 use Rattle.text.specs.declared.number.Number.{Number}
@@ -14,6 +14,9 @@ use Rattle.text.proofs.Reading.{cond-by}
 use Rattle.model.specs.declared.Context.{Context}
 use Rattle.services.specs.declared.names.Name.{Name}
 use Rattle.services.specs.declared.names.Name.the-variants.{Known, Unknown}
+use Rattle.services.specs.declared.takes.Takes.{Takes}
+use Rattle.services.specs.declared.takes.Takes.the-variants.{Blank, Plain, Timeout}
+use Rattle.services.specs.Takes.{takesAt}
 use Rattle.lines.specs.declared.fields.End.{End}
 use Rattle.lines.specs.declared.fields.End.the-variants.{Closes, NoEnd}
 use Rattle.lines.specs.declared.fields.Tail.{Tail}
@@ -28,7 +31,7 @@ use Rattle.lines.specs.declared.line.Header.{Header}
 use Rattle.lines.specs.declared.line.Header.the-variants.{Ends, NoHeader}
 use Rattle.model.specs.Services.{service}
 use Rattle.services.specs.Names.{nameOf}
-use Rattle.lines.specs.Fields.{fieldOf, numberThen, commaField, endOf, endThen, lastField, tailField, narrowTail, wideTail, tailOf, fieldThen, tailThen, fieldsOf}
+use Rattle.lines.specs.Fields.{fieldOf, numberThen, commaField, endOf, endThen, lastField, tailField, ifBlank, narrowTail, wideTail, tailOf, fieldThen, tailThen, fieldsOf}
 use Rattle.lines.specs.Lines.{letterOf, letterThen, nameThen, fieldsThen, lineOf, headerEndThen, headed, headerOf}
 use Rattle.lines.proofs.Long.{extra, NameHas, name-has, NumberHas, comma-has}
 
@@ -73,9 +76,9 @@ end-ends s =
     (cond-by P (begins s (bytes "\n")) (Closes 1) _ (λ _ h. omega arith)
     (cond-by P (begins s (bytes "\r\n")) (Closes 2) NoEnd (λ _ h. omega arith) tt))
 
-last-ends : (used : Bool) (s : List ℕ) → NumberEnds (lastField used s) (length s)
+last-ends : (takes : Takes) (s : List ℕ) → NumberEnds (lastField takes s) (length s)
 unfolding lastField
-last-ends used s = first (fieldOf used s)
+last-ends takes s = first (fieldOf takes s)
   where
     second : (v n : ℕ) (t : End) → EndEnds t (length (drop n s)) → NumberEnds (endThen t (λ k. Digits v (n + k))) (length s)
     second v n (Closes k) g = after s n k 1 1 g (omega arith)
@@ -85,40 +88,41 @@ last-ends used s = first (fieldOf used s)
     first (Digits v n) = second v n (endOf (drop n s)) (end-ends (drop n s))
     first NoNumber = tt
 
-tail-ends : (wide : Bool) (takes : ℕ) (s : List ℕ) → TailEnds wide (tailOf wide takes s) (length s)
+tail-ends : (wide : Bool) (n : ℕ) (s : List ℕ) → TailEnds wide (tailOf wide n s) (length s)
 unfolding tailOf wideTail narrowTail
-tail-ends true takes s = first (commaField (ltb 2 takes) s) (comma-has (ltb 2 takes) s)
+tail-ends true n s = first (commaField (takesAt n 2) s) (comma-has (takesAt n 2) s)
   where
     second : (c i : ℕ) → 1 ≤ i → (t : Number) → NumberEnds t (length (drop i s)) → TailEnds true (tailField t (λ d j. Two c d (i + j))) (length s)
     second c i h (Digits d j) g = after s i j 2 1 g (omega arith)
     second c i h NoNumber g = tt
 
-    first : (t : Number) → NumberHas t → TailEnds true (tailField t (λ c i. tailField (lastField (ltb 3 takes) (drop i s)) (λ d j. Two c d (i + j)))) (length s)
-    first (Digits c i) h = second c i h (lastField (ltb 3 takes) (drop i s)) (last-ends (ltb 3 takes) (drop i s))
+    first : (t : Number) → NumberHas t → TailEnds true (tailField t (λ c i. tailField (lastField (takesAt n 3) (drop i s)) (λ d j. Two c d (i + j)))) (length s)
+    first (Digits c i) h = second c i h (lastField (takesAt n 3) (drop i s)) (last-ends (takesAt n 3) (drop i s))
     first NoNumber h = tt
-tail-ends false takes s = go (ltb 3 takes) (lastField (ltb 2 takes) s) (last-ends (ltb 2 takes) s)
+tail-ends false n s = go (takesAt n 3) (lastField (takesAt n 2) s) (last-ends (takesAt n 2) s)
   where
-    go : (b : Bool) (t : Number) → NumberEnds t (length s) → TailEnds false (cond b NoTail (tailField t (λ c i. Two c 0 i))) (length s)
-    go true t g = tt
-    go false (Digits c i) g = g
-    go false NoNumber g = tt
+    go : (d : Takes) (t : Number) → NumberEnds t (length s) → TailEnds false (ifBlank d (tailField t (λ c i. Two c 0 i))) (length s)
+    go Blank (Digits c i) g = g
+    go Blank NoNumber g = tt
+    go Plain t g = tt
+    go Timeout t g = tt
 
-fields-end : (wide : Bool) (takes : ℕ) (s : List ℕ) → FieldsEnd wide (fieldsOf wide takes s) (length s)
+fields-end : (wide : Bool) (n : ℕ) (s : List ℕ) → FieldsEnd wide (fieldsOf wide n s) (length s)
 unfolding fieldsOf
-fields-end wide takes s = first (commaField (ltb 0 takes) s) (comma-has (ltb 0 takes) s)
+fields-end wide n s = first (commaField (takesAt n 0) s) (comma-has (takesAt n 0) s)
   where
     third : (a b i : ℕ) → 2 ≤ i → (t : Tail) → TailEnds wide t (length (drop i s)) → FieldsEnd wide (tailThen t (λ c d k. Four a b c d (i + k))) (length s)
     third a b i h (Two c d k) g = after s i k (3 + extra wide) (1 + extra wide) g (omega arith)
     third a b i h NoTail g = tt
 
     second : (a i : ℕ) → 1 ≤ i → (t : Number) → NumberHas t
-        → FieldsEnd wide (fieldThen t (λ b j. tailThen (tailOf wide takes (drop (i + j) s)) (λ c d k. Four a b c d (i + j + k)))) (length s)
-    second a i h (Digits b j) g = third a b (i + j) (omega arith) (tailOf wide takes (drop (i + j) s)) (tail-ends wide takes (drop (i + j) s))
+        → FieldsEnd wide (fieldThen t (λ b j. tailThen (tailOf wide n (drop (i + j) s)) (λ c d k. Four a b c d (i + j + k)))) (length s)
+    second a i h (Digits b j) g = third a b (i + j) (omega arith) (tailOf wide n (drop (i + j) s)) (tail-ends wide n (drop (i + j) s))
     second a i h NoNumber g = tt
 
     first : (t : Number) → NumberHas t
-        → FieldsEnd wide (fieldThen t (λ a i. fieldThen (commaField (ltb 1 takes) (drop i s)) (λ b j. tailThen (tailOf wide takes (drop (i + j) s)) (λ c d k. Four a b c d (i + j + k))))) (length s)
-    first (Digits a i) g = second a i g (commaField (ltb 1 takes) (drop i s)) (comma-has (ltb 1 takes) (drop i s))
+        → FieldsEnd wide (fieldThen t (λ a i. fieldThen (commaField (takesAt n 1) (drop i s)) (λ b j. tailThen (tailOf wide n (drop (i + j) s)) (λ c d k. Four a b c d (i + j + k))))) (length s)
+    first (Digits a i) g = second a i g (commaField (takesAt n 1) (drop i s)) (comma-has (takesAt n 1) (drop i s))
     first NoNumber g = tt
 
 -- ---- the line and the header
@@ -131,12 +135,12 @@ line-ends wide s = first (letterOf s)
     third x k i h NoFields g = tt
 
     second : (x : Context) (t : Name) → NameHas t
-        → LineEnds wide (nameThen t (λ k takes n. fieldsThen (fieldsOf wide takes (drop (2 + n) s)) (λ a b c d m. Reads x (service k .call a b c d) (2 + n + m)))) (length s)
-    second x (Known k takes n) g = third x k (2 + n) (omega arith) (fieldsOf wide takes (drop (2 + n) s)) (fields-end wide takes (drop (2 + n) s))
+        → LineEnds wide (nameThen t (λ k n. fieldsThen (fieldsOf wide k (drop (2 + n) s)) (λ a b c d m. Reads x (service k .call a b c d) (2 + n + m)))) (length s)
+    second x (Known k n) g = third x k (2 + n) (omega arith) (fieldsOf wide k (drop (2 + n) s)) (fields-end wide k (drop (2 + n) s))
     second x Unknown g = tt
 
     first : (t : Letter)
-        → LineEnds wide (letterThen t (λ x. nameThen (nameOf (drop 2 s)) (λ k takes n. fieldsThen (fieldsOf wide takes (drop (2 + n) s)) (λ a b c d m. Reads x (service k .call a b c d) (2 + n + m))))) (length s)
+        → LineEnds wide (letterThen t (λ x. nameThen (nameOf (drop 2 s)) (λ k n. fieldsThen (fieldsOf wide k (drop (2 + n) s)) (λ a b c d m. Reads x (service k .call a b c d) (2 + n + m))))) (length s)
     first (Is x) = second x (nameOf (drop 2 s)) (name-has (drop 2 s))
     first NoLetter = tt
 

@@ -15,11 +15,11 @@ use Rattle.lines.proofs.fields.last_field.Statement.{statement}
 use Rattle.lines.proofs.fields.last_field.Tie as tie
 
 -- what is known after each part was read, and that it lies within the bytes
-e1 : (c : tie.After-value) → fieldOf (c .before .before .before .before .args .used) (c .before .before .before .before .args .s .now) ≡ Digits (c .value .given .0 .0) (c .value .given .0 .1 .0)
+e1 : (c : tie.After-value) → fieldOf (c .before .before .before .before .args .takes) (c .before .before .before .before .args .s .now) ≡ Digits (c .value .given .0 .0) (c .value .given .0 .1 .0)
 e1 c = got (c .before .before .field .ensures) (c .value .given .1)
 
 in1 : (c : tie.After-value) → c .value .given .0 .1 .0 ≤ length (c .before .before .before .before .args .s .now)
-in1 c = rw (e1 c) at (field-in (c .before .before .before .before .args .used) (c .before .before .before .before .args .s .now))
+in1 c = rw (e1 c) at (field-in (c .before .before .before .before .args .takes) (c .before .before .before .before .args .s .now))
 
 e2 : (c : tie.After-end) → endOf (drop (c .before .before .before .before .before .value .given .0 .1 .0) (c .before .before .before .before .before .before .before .before .before .args .s .now)) ≡ Closes (c .end .given .0 .0)
 e2 c = got (part-of endOf (c .before .before .before .before .before .before .before .before .before .args .s .now) (c .before .before .before .before .before .value .given .0 .1 .0) (c .before .before .line-end .ensures)) (c .end .given .1)

@@ -27,22 +27,22 @@ e1 c = got (c .before .before .read-letter .ensures) (c .context .given .1)
 in1 : (c : tie.After-context) → 2 ≤ length (c .before .before .before .before .args .s .now)
 in1 c = rw (e1 c) at (letter-in (c .before .before .before .before .args .s .now))
 
-e2 : (c : tie.After-number) → nameOf (drop 2 (c .before .before .before .before .before .before .before .before .before .args .s .now)) ≡ Known (c .number .given .0 .0) (c .number .given .0 .1 .0) (c .number .given .0 .1 .1 .0)
+e2 : (c : tie.After-number) → nameOf (drop 2 (c .before .before .before .before .before .before .before .before .before .args .s .now)) ≡ Known (c .number .given .0 .0) (c .number .given .0 .1 .0)
 e2 c = got (part-of nameOf (c .before .before .before .before .before .before .before .before .before .args .s .now) 2 (c .before .before .read-name .ensures)) (c .number .given .1)
 
-in2 : (c : tie.After-number) → 2 + c .number .given .0 .1 .1 .0 ≤ length (c .before .before .before .before .before .before .before .before .before .args .s .now)
+in2 : (c : tie.After-number) → 2 + c .number .given .0 .1 .0 ≤ length (c .before .before .before .before .before .before .before .before .before .args .s .now)
 in2 c =
     let s = c .before .before .before .before .before .before .before .before .before .args .s .now in
-    after s 2 (c .number .given .0 .1 .1 .0) (in1 (c .before .before .before .before .before)) (rw (e2 c) at (name-in (drop 2 s)))
+    after s 2 (c .number .given .0 .1 .0) (in1 (c .before .before .before .before .before)) (rw (e2 c) at (name-in (drop 2 s)))
 
 e3 : (c : tie.After-a) → let e = c .before .before .before .before .before in
     let w = c .before .before .before .before .before .before .before .before .before .before .before .before .before .before .args in
-    fieldsOf (w .wide) (e .number .given .0 .1 .0) (drop (2 + e .number .given .0 .1 .1 .0) (w .s .now))
+    fieldsOf (w .wide) (e .number .given .0 .0) (drop (2 + e .number .given .0 .1 .0) (w .s .now))
     ≡ Four (c .a .given .0 .0) (c .a .given .0 .1 .0) (c .a .given .0 .1 .1 .0) (c .a .given .0 .1 .1 .1 .0) (c .a .given .0 .1 .1 .1 .1 .0)
 e3 c =
     let e = c .before .before .before .before .before in
     let w = c .before .before .before .before .before .before .before .before .before .before .before .before .before .before .args in
-    got (part-of (fieldsOf (w .wide) (e .number .given .0 .1 .0)) (w .s .now) (2 + e .number .given .0 .1 .1 .0) (c .before .before .read-fields .ensures)) (c .a .given .1)
+    got (part-of (fieldsOf (w .wide) (e .number .given .0 .0)) (w .s .now) (2 + e .number .given .0 .1 .0) (c .before .before .read-fields .ensures)) (c .a .given .1)
 
 -- the number of a known name is a service's
 known : (c : tie.After-number) → isService (c .number .given .0 .0) ≡ true
@@ -76,7 +76,7 @@ unfolding lineOf
 returns-3 c =
     let e = c .before .before .before .before .before in
     let w = c .before .before .before .before .before .before .before .before .before .before .before .before .before .before .args in
-    simp (e1 (c .before .before .before .before .before .before .before .before .before .before)) (simp (e2 e) (simp (got (part-of (fieldsOf (w .wide) (e .number .given .0 .1 .0)) (w .s .now) (2 + e .number .given .0 .1 .1 .0) (c .before .before .read-fields .ensures)) (c .enum-told3 .given .1))))
+    simp (e1 (c .before .before .before .before .before .before .before .before .before .before)) (simp (e2 e) (simp (got (part-of (fieldsOf (w .wide) (e .number .given .0 .0)) (w .s .now) (2 + e .number .given .0 .1 .0) (c .before .before .read-fields .ensures)) (c .enum-told3 .given .1))))
 
 returns-4 : tie.Need-returns-4
 returns-4 c =
@@ -85,14 +85,14 @@ returns-4 c =
     absurd
     (call-there (e .number .given .0 .0) (x .a .given .0 .0) (x .a .given .0 .1 .0) (x .a .given .0 .1 .1 .0) (x .a .given .0 .1 .1 .1 .0) (known e) (c .before .before .call-of .ensures) (c .enum-told4 .given .1))
 
-add-t17 : tie.Need-add-t17
-add-t17 c =
+add-t16 : tie.Need-add-t16
+add-t16 c =
     let x = c .before .before .before .before .before in
     let e = x .before .before .before .before .before in
     let w = x .before .before .before .before .before .before .before .before .before .before .before .before .before .before .args in
     let s = w .s .now in
-    let n = 2 + e .number .given .0 .1 .1 .0 in
-    omega (arith, after s n (x .a .given .0 .1 .1 .1 .1 .0) (in2 e) (rw (e3 x) at (fields-in (w .wide) (e .number .given .0 .1 .0) (drop n s))), x .before .before .before .before .before .before .before .before .before .before .before .before .before .before .good)
+    let n = 2 + e .number .given .0 .1 .0 in
+    omega (arith, after s n (x .a .given .0 .1 .1 .1 .1 .0) (in2 e) (rw (e3 x) at (fields-in (w .wide) (e .number .given .0 .0) (drop n s))), x .before .before .before .before .before .before .before .before .before .before .before .before .before .before .good)
 
 returns-5 : tie.Need-returns-5
 unfolding lineOf
@@ -129,5 +129,5 @@ read-line-spec =
     (λ c. search needs)
     (λ c. search needs)
     returns-4
-    add-t17
+    add-t16
     returns-5)
