@@ -1,5 +1,6 @@
 -- Lines with what they read to: document 01's worked list, then each rule of its section on lists, kept and broken.
 -- antt computes the definitions on every row.
+use Prim.Native.Nat.{ℕ}
 use Prim.Native.String.{String}
 use mathlib.Core.Path.{_≡_, refl}
 use mathlib.Core.Bool.{Bool, true, false}
@@ -18,6 +19,11 @@ use Rattle.lines.specs.declared.line.Header.{Header}
 use Rattle.lines.specs.declared.line.Header.the-variants.{Ends, NoHeader}
 use Rattle.lines.specs.Fields.{saidOf, fieldOf, commaField, endOf, lastField, narrowTail, wideTail, tailOf, fieldsOf}
 use Rattle.lines.specs.Lines.{letterOf, lineOf, headed, headerOf}
+
+-- the whole reader of a line: a proof that computes a line names this
+unfoldable pub reader : ℕ
+unfolding lineOf letterOf nameOf nameIn label table fieldsOf tailOf narrowTail wideTail takesAt takesIn fieldOf saidOf commaField lastField endOf numberOf numeral valueAfter digits isDigit begins
+reader = 0
 
 infix 20 _reads_
 pub data Row : Type 0 where
@@ -101,11 +107,11 @@ wideRows =
     ∷ []
 
 pub lines-read : given false rows ≡ wanted rows
-unfolding rows lineOf letterOf nameOf nameIn label table fieldsOf tailOf narrowTail takesAt takesIn fieldOf saidOf commaField lastField endOf numberOf numeral valueAfter digits isDigit begins
+unfolding rows reader
 lines-read = refl
 
 pub wide-lines-read : given true wideRows ≡ wanted wideRows
-unfolding wideRows lineOf letterOf nameOf nameIn label table fieldsOf tailOf wideTail takesAt takesIn fieldOf saidOf commaField lastField endOf numberOf numeral valueAfter digits isDigit begins
+unfolding wideRows reader
 wide-lines-read = refl
 
 abbrev pub headers : List Header
