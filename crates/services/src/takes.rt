@@ -18,9 +18,9 @@ fn takes_a(number: u32) -> Takes
     }
     match number {
         0 => Takes::Blank,
-        5 => Takes::Blank,
-        9 => Takes::Timeout,
-        16 => Takes::Blank,
+        5 => Takes::Blank, // tn_task_exit
+        9 => Takes::Timeout, // tn_task_sleep: timeout
+        16 => Takes::Blank, // tn_tick_int_processing
         _ => Takes::Plain,
     }
 }
@@ -29,19 +29,19 @@ fn takes_b(number: u32) -> Takes
     ensures { λ r. ⌜ r ≡ takesAt number 1 ⌝ }
 {
     match number {
-        1 => Takes::Plain,
-        14 => Takes::Plain,
-        15 => Takes::Plain,
-        17 => Takes::Plain,
-        21 => Takes::Timeout,
-        24 => Takes::Plain,
-        26 => Takes::Plain,
-        27 => Takes::Plain,
-        28 => Takes::Plain,
-        29 => Takes::Plain,
-        30 => Takes::Plain,
-        31 => Takes::Plain,
-        32 => Takes::Plain,
+        1 => Takes::Plain, // tn_task_create: priority
+        14 => Takes::Plain, // tn_task_change_priority: priority
+        15 => Takes::Plain, // tn_sys_tslice_ticks: slice
+        17 => Takes::Plain, // tn_sem_create: start
+        21 => Takes::Timeout, // tn_sem_acquire: timeout
+        24 => Takes::Plain, // tn_event_create: attributes
+        26 => Takes::Plain, // tn_event_set: pattern
+        27 => Takes::Plain, // tn_event_iset: pattern
+        28 => Takes::Plain, // tn_event_clear: pattern
+        29 => Takes::Plain, // tn_event_iclear: pattern
+        30 => Takes::Plain, // tn_event_wait: pattern
+        31 => Takes::Plain, // tn_event_wait_polling: pattern
+        32 => Takes::Plain, // tn_event_iwait: pattern
         _ => Takes::Blank,
     }
 }
@@ -50,12 +50,12 @@ fn takes_c(number: u32) -> Takes
     ensures { λ r. ⌜ r ≡ takesAt number 2 ⌝ }
 {
     match number {
-        1 => Takes::Plain,
-        17 => Takes::Plain,
-        24 => Takes::Plain,
-        30 => Takes::Plain,
-        31 => Takes::Plain,
-        32 => Takes::Plain,
+        1 => Takes::Plain, // tn_task_create: option
+        17 => Takes::Plain, // tn_sem_create: maximum
+        24 => Takes::Plain, // tn_event_create: bits
+        30 => Takes::Plain, // tn_event_wait: mode
+        31 => Takes::Plain, // tn_event_wait_polling: mode
+        32 => Takes::Plain, // tn_event_iwait: mode
         _ => Takes::Blank,
     }
 }
@@ -64,7 +64,7 @@ fn takes_d(number: u32) -> Takes
     ensures { λ r. ⌜ r ≡ takesAt number 3 ⌝ }
 {
     match number {
-        30 => Takes::Timeout,
+        30 => Takes::Timeout, // tn_event_wait: timeout
         _ => Takes::Blank,
     }
 }
