@@ -17,8 +17,8 @@
 /* The version: 10000 times its first number, 100 times its second, and its third. The second counts the landings after the base
    (docs/landings) and goes up with each; the first goes up too where callers must be built again; the third with a correction between
    two landings. What came before 1.5.0 has no such number. */
-#define GRITGARLAND_VERSION 30700
-#define GRITGARLAND_VERSION_STRING "3.7.0"
+#define GRITGARLAND_VERSION 30800
+#define GRITGARLAND_VERSION_STRING "3.8.0"
 
 #ifdef __cplusplus
 extern "C" {
@@ -129,7 +129,8 @@ enum {
 };
 
 /* A list has the header `ctx,service,a,b,c`, or `ctx,service,a,b,c,d` and a sixth field on every line; tn_event_wait needs the
-   second. A list written for TNKernel itself must complement the patterns of its clears.
+   second. In a timeout of a list the word `forever` is GRITGARLAND_ENDLESS. A list written for TNKernel itself must complement the
+   patterns of its clears.
    Runs the list of calls in `file` from the fresh state and writes the answer. Returns the bytes written; or, with no byte of
    `answer` changed: -1, the file is too long; -(10 + line), the first line that can't be read, the header being line 1;
    -2, the answer does not fit. Bytes beyond those written stay.

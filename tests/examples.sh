@@ -18,6 +18,12 @@ while read -r list; do
     cmp -s "$work/answer" "$answer" || differs "$list: runlist does not write $answer"
 done <"$work/lists"
 
+# the word of the hold and its digits get the same answer
+sed 's/,forever$/,4294967295/' examples/hold-until-key.csv >"$work/digits"
+cmp -s "$work/digits" examples/hold-until-key.csv && differs "examples/hold-until-key.csv has no timeout in a word"
+plays "$work/digits" 0
+cmp -s "$work/answer" examples/hold-until-key.answer || differs "examples/hold-until-key.csv is answered otherwise with digits for its word"
+
 # ---- the pages
 # both LIST FORM: each line of a list beside its row of the answer
 both() {

@@ -27,7 +27,7 @@ cat >"$work/caller.c" <<'END'
 #define GRITGARLAND_NO_RUN_LIST
 #include "gritgarland.h"
 
-#if GRITGARLAND_VERSION < 30700
+#if GRITGARLAND_VERSION < 30800
 #error "an old header"
 #endif
 
@@ -108,6 +108,7 @@ for header in gritgarland.h gritgarland_services.h gritgarland_names.h; do
 done
 finds gritgarland_state.h "must be zero, else the state is unsound"
 finds gritgarland.h "Look at the code before the running task"
+finds gritgarland.h 'the word `forever` is GRITGARLAND_ENDLESS'
 
 [ "$failed" -eq 0 ] && echo "headers: version $version, no warning from$tried"
 exit "$failed"

@@ -107,11 +107,25 @@ call 'T,tn_task_sleep,65\302\240535,,' 'field 3 (a): [65\xC2\xA0535] is not plai
 call 'T,tn_task_sleep,5\001,,' "field 3 (a): [5\\x01] is not plain digits: it has a byte that can't be printed" '[T,tn_task_sleep,5\x01,,]'
 call 'T,tn_task_sleep,5\\x,,' 'field 3 (a): [5\\x] is not plain digits' '[T,tn_task_sleep,5\\x,,]'
 call 'T,tn_task_sleep,007,,' "field 3 (a): [007] has a needless leading zero" '[T,tn_task_sleep,007,,]'
-call 'T,tn_task_sleep,4294967296,,' "field 3 (a): [4294967296] is too large: the largest number is 4294967295" '[T,tn_task_sleep,4294967296,,]'
+call 'T,tn_task_sleep,4294967296,,' "field 3 (a): [4294967296] is too large: the largest number is 4294967295; for the endless wait write forever" '[T,tn_task_sleep,4294967296,,]'
+call 'T,tn_event_set,1,4294967296,' "field 4 (b): [4294967296] is too large: the largest number is 4294967295" '[T,tn_event_set,1,4294967296,]'
+call 'T,tn_task_create,1,forever,1' "field 4 (b): [forever] stands for a timeout only, and tn_task_create takes its priority there" '[T,tn_task_create,1,forever,1]'
+call 'T,tn_sem_acquire,forever,forever,' "field 3 (a): [forever] stands for a timeout only, and tn_sem_acquire takes its semaphore there" '[T,tn_sem_acquire,forever,forever,]'
+six 'T,tn_event_wait,1,forever,0,forever' "field 4 (b): [forever] stands for a timeout only, and tn_event_wait takes its pattern there" '[T,tn_event_wait,1,forever,0,forever]'
+call 'T,tn_task_sleep,Forever,,' "field 3 (a): [Forever] is not in lower case: write forever" '[T,tn_task_sleep,Forever,,]'
+six 'T,tn_event_wait,1,1,0,FOREVER' "field 6 (d): [FOREVER] is not in lower case: write forever" '[T,tn_event_wait,1,1,0,FOREVER]'
+call 'T,tn_task_suspend,FOREVER,,' "field 3 (a): [FOREVER] is not plain digits" '[T,tn_task_suspend,FOREVER,,]'
+call 'T,tn_sem_acquire,1,forever ,' "field 4 (b): [forever ] has a space: write forever" '[T,tn_sem_acquire,1,forever ,]'
+call 'T,tn_sem_acquire,1,\tForever,' 'field 4 (b): [\tForever] has a tab: write forever' '[T,tn_sem_acquire,1,\tForever,]'
+call 'T,tn_sem_acquire,1,"forever",' 'field 4 (b): ["forever"] has quotes: write forever' '[T,tn_sem_acquire,1,"forever",]'
+call 'T,tn_sem_acquire,1,foreve,' "field 4 (b): [foreve] is not plain digits" '[T,tn_sem_acquire,1,foreve,]'
+call 'T,tn_sem_acquire,1,forever1,' "field 4 (b): [forever1] is not plain digits" '[T,tn_sem_acquire,1,forever1,]'
 call 'T,tn_sem_acquire,1,,' "field 4 (b): [] is blank, and tn_sem_acquire takes a number there, its timeout" '[T,tn_sem_acquire,1,,]'
 six 'T,tn_event_wait,1,1,0,' "field 6 (d): [] is blank, and tn_event_wait takes a number there, its timeout" '[T,tn_event_wait,1,1,0,]'
 call 'T,tn_task_exit,0,,' "field 3 (a): [0] must be blank: tn_task_exit takes no number" '[T,tn_task_exit,0,,]'
 call 'T,tn_sem_signal,1,2,' "field 4 (b): [2] must be blank: tn_sem_signal takes 1 number" '[T,tn_sem_signal,1,2,]'
+call 'T,tn_task_exit,,,forever' "field 5 (c): [forever] must be blank: tn_task_exit takes no number" '[T,tn_task_exit,,,forever]'
+six 'T,tn_task_sleep,forever,,,forever' "field 6 (d): [forever] must be blank: tn_task_sleep takes 1 number" '[T,tn_task_sleep,forever,,,forever]'
 six 'T,tn_sem_create,1,0,1, ' "field 6 (d): [ ] must be blank, and has a space: tn_sem_create takes 3 numbers" '[T,tn_sem_create,1,0,1, ]'
 
 # ---- what can't be printed is shown
@@ -120,14 +134,14 @@ call 'x\001\010\013\014\016\037\177\200\240\377~}! \\' "1 field, this header nee
 # ---- long quotes are cut, and not within the sign for a byte
 digits=1234567890
 long=$digits$digits$digits$digits$digits
-call "T,tn_task_sleep,$long$digits,," "field 3 (a): [$long$digits] is too large: the largest number is 4294967295" "[T,tn_task_sleep,$long$digits,,]"
+call "T,tn_task_sleep,$long$digits,," "field 3 (a): [$long$digits] is too large: the largest number is 4294967295; for the endless wait write forever" "[T,tn_task_sleep,$long$digits,,]"
 call "T,tn_task_sleep,${long}123456789\\\\351x,," "field 3 (a): [${long}123456789\\\\ ..] (64 bytes) is not plain digits" "[T,tn_task_sleep,${long}123456789\\\\351x,,]"
 call "T,tn_task_sleep,${long}123456789\351x,," "field 3 (a): [${long}123456789\\xE9 ..] (61 bytes) is not plain digits: it has a byte that is not ASCII" \
     "[T,tn_task_sleep,${long}123456789\\xE9x,,]"
 call "x$long$long$long$long" "1 field, this header needs 5" "[x$long$long$long${long%0} ..] (201 bytes)"
 
 # ---- warnings
-endless="a timeout of 65535 was the endless wait on the 16-bit port; here it is a finite wait, and 4294967295 is the endless one"
+endless="a timeout of 65535 was the endless wait on the 16-bit port; here it is a finite wait: for the endless one write forever"
 # every service with 65535 in every field that it takes, in lines that end in CRLF but for the last: of the timeouts alone is warned
 awk -f tools/services.awk crates/model/specs/Services.antt >"$work/services" || differs "the table of services can't be read"
 awk -v header=$header,d '
@@ -143,6 +157,19 @@ printf '%s\nT,tn_task_sleep,65535,,\nT,tn_\nT,tn_task_sleep,165535,,\nI,tn_task_
 plays "$work/file" 1
 grep 65535 "$work/words" >"$work/is"
 printf '%s\n' "line 2: $endless" "line 5: $endless" | cmp -s - "$work/is" || differs "./play does not warn of 65535 in a refused file"
+
+# the word in every timeout, and 1 in every other field that a service takes: all is read, nothing is said of it, and digits get the same answer
+awk -v header=$header,d '
+    BEGIN { print header }
+    { line = $2 "," $1; for (i = 3; i <= 6; i++) line = line "," ($i == "timeout" ? "forever" : i <= NF ? 1 : ""); print line }
+' "$work/services" >"$work/file"
+[ "$(grep -c forever "$work/file")" -ge 3 ] || differs "fewer than 3 services take the word"
+sed s/forever/4294967295/ "$work/file" >"$work/digits"
+plays "$work/digits" 0
+cp "$work/answer" "$work/wanted"
+plays "$work/file" 0
+cmp -s "$work/answer" "$work/wanted" || differs "the word and its digits are answered otherwise"
+grep -q '^line ' "$work/words" && differs "./play has words about the word in a timeout"
 
 # clears: 17 bits and more, of 32; not 16, not another service, not what is no number or too large for one
 printf '%s\n' $header T,tn_event_create,1,0,4294967295 T,tn_event_clear,1,65535, T,tn_event_clear,1,131071, I,tn_event_iclear,1,4294967293, T,tn_event_clear,1,4294967295, \

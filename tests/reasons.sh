@@ -1,6 +1,7 @@
 #!/bin/sh
 # Holds the reasons of ./play (tools/reasons.awk) to the proved reader: a line that it refuses always gets a reason, and one that it reads
-# never does. Lines of every service with right and wrong fields, with every small edit, and with every byte value at every place.
+# never does. Lines of every service with right and wrong fields, with every small edit, and with every byte value at every place. The word
+# for the endless timeout, and what is nearly it, is tried in every field of every service.
 set -u
 LC_ALL=C
 export LC_ALL
@@ -46,11 +47,15 @@ lines() {
         BEGIN {
             room = wide ? 4 : 3
             count = split("0 00 01 1 7 10 65535 65.535 4294967294 4294967295 4294967296 4294967305 4294967300 5000000000 9999999999 04294967295 10000000000 " \
-                "42949672950 18446744073709551615 18446744073709551616 18446744073709551617 99999999999999999999 -1 +1 1. .1 1e3 0x10 1_0 \\1 forever a T", tried, " ")
+                "42949672950 18446744073709551615 18446744073709551616 18446744073709551617 99999999999999999999 -1 +1 1. .1 1e3 0x10 1_0 \\1 a T " \
+                "forever Forever FOREVER foreveR foreve orever forevers forever1 1forever forever4294967295 forever\t forever\r \"forever\" -forever for;ever endless", tried, " ")
             count++
             for (k = 0; k < 300; k++) tried[count] = tried[count] "9"
             tried[++count] = " 1"
             tried[++count] = "1 "
+            tried[++count] = " forever"
+            tried[++count] = "forever "
+            tried[++count] = "for ever"
             tried[++count] = "\"1\""
             tried[++count] = " "
             tried[++count] = ""
@@ -76,19 +81,30 @@ lines() {
     awk -v header="ctx,service,a,b,c" 'BEGIN { print header; print header ",d"; print "T"; print ","; print "x"; print "# a note"; print "T;tn_task_exit;;;"; print "T,ready_ticks,1,,"; print "T,ready_ticks,1,,," }'
 }
 
-# right WIDE: one readable line of each service that has room
+# right WIDE: one readable line of each service that has room, and with the word for its timeout another
 right() {
-    awk -v room="$((3 + $1))" 'NF - 2 <= room { line = $2 "," $1; for (i = 3; i <= room + 2; i++) line = line "," (i <= NF ? 10 * i : ""); print line }' "$work/services"
+    awk -v room="$((3 + $1))" '
+        NF - 2 <= room {
+            print line("")
+            if (/ timeout/) print line("timeout")
+        }
+        function line(worded,    all, i) {
+            all = $2 "," $1
+            for (i = 3; i <= room + 2; i++) all = all "," (i > NF ? "" : $i == worded ? "forever" : 10 * i)
+            return all
+        }
+    ' "$work/services"
 }
 
 for wide in 0 1; do
     [ "$wide" -eq 0 ] && as=five || as=six
     right "$wide" >"$work/right"
+    [ "$(grep -c forever "$work/right")" -ge "$((2 + wide))" ] || { echo "reasons: fewer than $((2 + wide)) lines with the word"; wrong=1; }
     more=$([ "$wide" -eq 0 ] || echo ,)
     {
         lines "$wide"
         reader edits <"$work/right" || wrong=1
-        printf '%s\n' "T,tn_task_sleep,10,,$more" "I,tn_sem_isignal,4294967295,,$more" | reader bytes || wrong=1
+        printf '%s\n' "T,tn_task_sleep,10,,$more" "I,tn_sem_isignal,4294967295,,$more" "T,tn_sem_acquire,1,forever,$more" | reader bytes || wrong=1
     } >"$work/lines"
     od -An -v -tx1 <"$work/lines" | awk -f tools/shown.awk >"$work/shown"
     ask "$work/lines" "$as"

@@ -1,7 +1,7 @@
 #!/bin/sh
 # The one table of services, crates/model/specs/Services.antt (name, context, fields; a service's number is its row), and the codes of
 # Code.antt beside it, against what says them again: the constants, functions and names of the headers in include/, the tables of
-# docs/SERVICES.md, the timeouts of ./play. Writes what differs; exit status 0 if nothing does.
+# docs/SERVICES.md, the timeouts of ./play and of the page. Writes what differs; exit status 0 if nothing does.
 set -u
 LC_ALL=C
 export LC_ALL
@@ -167,6 +167,12 @@ awk -F'|' '
     on && /^\| `/ { gsub(/[ `]*/, "", $2); sub(/^ */, "", $5); sub(/ *$/, "", $5); print $2, $5 }
 ' "$page" >"$work/is"
 same "the contexts that $page says are refused"
+
+# ---- the page: where the word for the endless wait may stand
+awk '{ for (i = 4; i <= NF; i++) if ($i == "timeout") print substr("abcd", i - 3, 1) " of `" $2 "`" }' "$work/table" >"$work/wanted"
+[ "$(wc -l <"$work/wanted")" -ge 3 ] || { echo "services: $table has fewer than 3 timeouts"; failed=1; }
+tr '\n' ' ' <"$page" | tr -s ' ' | sed 's/.* The timeouts are \([^.]*\)\..*/\1/' | awk '{ gsub(/ and |, /, "\n"); print }' >"$work/is"
+same "the timeouts of $page"
 
 # ---- the table as ./play reads it, by tools/services.awk: those that a list may hold
 sed -n 's/^[0-9]* \(tn_.*\)/\1/p' "$work/table" >"$work/wanted"

@@ -10,6 +10,7 @@ BEGIN {
     six = five ",d"
     split(six, word, ",")
     most = "4294967295"
+    endless = "forever"
 }
 FNR == NR {
     known[$1] = 1
@@ -108,11 +109,14 @@ function service(f) {
 }
 
 # a field that the service takes
-function number(f, name, what) {
+function number(f, name, what,    timeout) {
+    timeout = what == "timeout"
     if (f == "") return "[] is blank, and " name " takes a number there, its " what
+    if (f == endless) return timeout ? "" : quote(f) " stands for a timeout only, and " name " takes its " what " there"
+    if (timeout && tolower(bare(f)) == endless) return quote(f) (tolower(f) == endless ? " is not in lower case: write " endless : wrongWord(f, endless))
     if (f !~ /^[0-9]+$/) return quote(f) " is not plain digits" colon(f)
     if (f ~ /^0./) return quote(f) " has a needless leading zero"
-    if (length(f) > length(most) || length(f) == length(most) && (f "") > most) return quote(f) " is too large: the largest number is " most
+    if (length(f) > length(most) || length(f) == length(most) && (f "") > most) return quote(f) " is too large: the largest number is " most (timeout ? "; for the endless wait write " endless : "")
     return ""
 }
 

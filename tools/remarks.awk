@@ -10,7 +10,7 @@ FNR == NR {
     count = split(text, f, ",")
     for (i = 3; i <= count; i++) {
         if (kind[f[2], i] == "timeout" && f[i] == "65535")
-            print "line " FNR ": a timeout of 65535 was the endless wait on the 16-bit port; here it is a finite wait, and 4294967295 is the endless one"
+            print "line " FNR ": a timeout of 65535 was the endless wait on the 16-bit port; here it is a finite wait: for the endless one write forever"
         if (kind[f[2], i] == "pattern" && f[2] ~ /^tn_event_i?clear$/ && f[i] ~ /^[1-9][0-9]*$/ && f[i] <= 4294967295) clear(f[i], bits(f[i]))
     }
 }

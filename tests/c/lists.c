@@ -1,4 +1,5 @@
-/* Whole lists from C, by both names of the function: the worked list, every refusal, and every byte of the buffer before and after. */
+/* Whole lists from C, by both names of the function: the worked list, every refusal, endless timeouts in words and in digits, and every
+   byte of the buffer before and after. */
 #include "gritgarland.h"
 #include "libc.h"
 
@@ -63,6 +64,39 @@ static const char held[] = HEADER_SIX "T,tn_event_create,1,3,0,\nT,tn_task_creat
     "I,tn_tick_int_processing,,,,\nI,tn_event_iset,1,1,,\nT,tn_event_set,1,6,,\nT,tn_event_clear,1,2,,\nT,tn_event_wait_polling,1,4,0,\nI,tn_event_iwait,1,4,0,\n";
 static const char held_answer[] = "n,code,running\r\n1,0,0\r\n2,0,1\r\n3,1,0\r\n4,0,0\r\n5,0,1\r\n6,0,1\r\n7,0,1\r\n8,0,1\r\n9,-4,1\r\n";
 
+/* endless waits of each kind, a star for each timeout; every wait is ended by an interrupt, but for the last */
+static const char waits[] = HEADER "T,tn_sem_create,1,0,1\nT,tn_task_create,1,5,1\nT,tn_task_create,2,6,1\nT,tn_sem_acquire,1,*,\nT,tn_task_sleep,*,,\n"
+    "I,tn_tick_int_processing,,,\nI,tn_sem_isignal,1,,\nI,tn_task_iwakeup,2,,\nT,tn_task_sleep,*,,\n";
+static const char waits_answer[] = "n,code,running\r\n1,0,0\r\n2,0,1\r\n3,0,1\r\n4,1,2\r\n5,1,0\r\n6,0,0\r\n7,0,1\r\n8,0,1\r\n9,1,2\r\n";
+static const char waits_six[] = HEADER_SIX "T,tn_event_create,1,0,0,\nT,tn_sem_create,1,0,1,\nT,tn_task_create,1,5,1,\nT,tn_sem_acquire,1,*,,\n"
+    "I,tn_sem_isignal,1,,,\nT,tn_task_sleep,*,,,\nI,tn_tick_int_processing,,,,\nI,tn_task_iwakeup,1,,,\nT,tn_event_wait,1,1,0,*\n";
+static const char waits_six_answer[] = "n,code,running\r\n1,0,0\r\n2,0,0\r\n3,0,1\r\n4,1,0\r\n5,0,1\r\n6,1,0\r\n7,0,0\r\n8,0,1\r\n9,1,0\r\n";
+
+/* the list with this for its stars, these line ends, and none after the last line */
+static size_t put_with(const char *text, const char *star, const char *line_end)
+{
+    size_t n = 0;
+    for (size_t i = 0; text[i] != 0; i++) {
+        const char *part = text[i] == '*' ? star : line_end;
+        if (text[i] == '*' || text[i] == '\n') {
+            memcpy(file + n, part, length(part));
+            n += length(part);
+        } else
+            file[n++] = (uint8_t)text[i];
+    }
+    return n - length(line_end);
+}
+
+static void endless(const char *star, const char *line_end)
+{
+    size_t n = put_with(waits, star, line_end);
+    run(n, 4096, sizeof waits_answer - 1, waits_answer, "endless waits under five fields");
+    run(n + length(line_end), 4096, sizeof waits_answer - 1, waits_answer, "and with an end of the last line");
+    n = put_with(waits_six, star, line_end);
+    run(n, 4096, sizeof waits_six_answer - 1, waits_six_answer, "endless waits under six fields");
+    run(n + length(line_end), 4096, sizeof waits_six_answer - 1, waits_six_answer, "and with an end of their last line");
+}
+
 static void unreadable(const char *line, const char *what)
 {
     size_t n = put(HEADER "T,tn_task_exit,,,\n");
@@ -113,6 +147,30 @@ int main(void)
     run(put(HEADER_SIX "T,tn_event_wait,1,1,0,\n"), 4096, -12, NULL, "a flag wait without its timeout");
     unreadable("T,tn_event_wait,1,1,0\n", "a flag wait under the header of five fields");
     unreadable("T,tn_event_wait,1,1,0,5\n", "and with its sixth field");
+
+    endless("4294967295", "\n");
+    endless("4294967295", "\r\n");
+    endless("forever", "\n");
+    endless("forever", "\r\n");
+    unreadable("T,tn_task_create,1,forever,1\n", "the word for a priority");
+    unreadable("T,tn_task_suspend,forever,,\n", "for a task");
+    unreadable("T,tn_sem_acquire,forever,forever,\n", "for a semaphore");
+    unreadable("T,tn_task_sleep,forever,forever,\n", "in a field that is not used");
+    unreadable("T,tn_task_exit,,,forever\n", "and in the last of them");
+    unreadable("T,tn_task_sleep,Forever,,\n", "the word with a capital");
+    unreadable("T,tn_task_sleep,FOREVER,,\n", "in capitals");
+    unreadable("T,tn_task_sleep,foreve,,\n", "without its last letter");
+    unreadable("T,tn_task_sleep,forever1,,\n", "with a digit behind it");
+    unreadable("T,tn_task_sleep,forever ,,\n", "with a space behind it");
+    unreadable("T,tn_task_sleep, forever,,\n", "with a space before it");
+    unreadable("T,tn_task_sleep,\"forever\",,\n", "in quotes");
+    unreadable("T,tn_task_sleep,forever", "with nothing behind it");
+    run(put(HEADER_SIX "T,tn_event_wait,1,forever,0,5\n"), 4096, -12, NULL, "the word for a pattern");
+    run(put(HEADER_SIX "T,tn_task_sleep,forever,,,forever\n"), 4096, -12, NULL, "in the sixth field, which is not used");
+    run(put(HEADER_SIX "T,tn_event_wait,1,1,0,forever1\n"), 4096, -12, NULL, "with a digit behind it at the line's end");
+    run(put(HEADER_SIX "T,tn_event_wait,1,1,0,forever\r"), 4096, -12, NULL, "with a CR behind it at the file's end");
+    run(put(HEADER_SIX "T,tn_event_wait,1,1,0,Forever"), 4096, -12, NULL, "with a capital at the file's end");
+    run(put(HEADER_SIX "T,tn_event_wait,1,1,0,foreve"), 4096, -12, NULL, "cut at the file's end");
 
     /* the longest file: the last line is cut to fill it */
     n = put(HEADER);

@@ -15,7 +15,7 @@ pub struct BadList {
 /// A list of these calls with one damaged line; what follows it may be anything.
 pub fn bad_list(rng: &mut Rng, calls: &[Call]) -> BadList {
     let width = width(rng, calls);
-    let mut lines = lines(calls, width);
+    let mut lines = lines_with_words(rng, calls, width);
     let place = rng.below(lines.len());
     let damage = if place == 0 {
         lines[0] = rng.pick(&BAD_HEADERS).to_vec();
@@ -42,14 +42,14 @@ pub fn bad_end(rng: &mut Rng, calls: &[Call]) -> BadList {
     BadList { file, line: calls.len() + 1, damage: "CR at the end" }
 }
 
-/// One to four changes of single bytes, cuts, repeats and line ends, wherever they fall.
+/// One to four changes of single bytes, cuts, repeats, line ends and fields, wherever they fall.
 pub fn damage_bytes(rng: &mut Rng, file: &mut Vec<u8>) {
     for _ in 0..rng.from(1, 4) {
         if file.is_empty() {
             file.push(rng.any() as u8);
         }
         let at = rng.below(file.len());
-        match rng.below(12) {
+        match rng.below(13) {
             0 => file[at] ^= 1 << rng.below(8),
             1 => file[at] = rng.any() as u8,
             2 => file[at] = rng.pick(b"\r\n,,0019TIt_ \""),
@@ -69,12 +69,27 @@ pub fn damage_bytes(rng: &mut Rng, file: &mut Vec<u8>) {
                 let to = (at + rng.below(40)).min(file.len());
                 file.drain(at..to);
             }
+            11 => put_word(rng, file),
             _ => {
                 let other = rng.below(file.len());
                 file.swap(at, other);
             }
         }
     }
+}
+
+/// Writes one of the file's fields for numbers otherwise, a blank one too: as the word, or nearly so.
+pub fn put_word(rng: &mut Rng, file: &mut Vec<u8>) {
+    let is_letter = |place: usize| file.get(place).is_some_and(u8::is_ascii_lowercase);
+    let starts = (1..=file.len()).filter(|&place| file[place - 1] == b',' && !is_letter(place));
+    let starts: Vec<usize> = starts.collect();
+    if starts.is_empty() {
+        return;
+    }
+    let start = rng.pick(&starts);
+    let digits = file[start..].iter().take_while(|byte| byte.is_ascii_digit()).count();
+    let text = if rng.percent(60) { WORD } else { rng.pick(&NEARLY_THE_WORD) };
+    file.splice(start..start + digits, text.bytes());
 }
 
 /// Writes one of the file's line ends otherwise: LF, CRLF, CR, CR CR LF, LF LF or LF CR.
@@ -99,7 +114,7 @@ pub fn exact(seed: u64, length: usize) -> Vec<u8> {
     let tail = short * (short - 1); // from here on every length is made of the two
     let mut file = [header(width), b"\n"].concat();
     for call in calls {
-        let line = line(&call, width);
+        let line = line_with_word(&mut world.rng, &call, width);
         if file.len() + line.len() + 1 + tail > length {
             break;
         }

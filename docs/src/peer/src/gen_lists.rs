@@ -1,8 +1,9 @@
-//! Random lists as text, readable ones and damaged ones, from repeatable random calls.
+//! Random lists as text, readable ones and damaged ones, from repeatable random calls. An endless timeout is a word in some of them.
 //! Every damage of a single line makes that line unreadable, so the runner's answer to such a file is known.
 
 use crate::gen::Rng;
-use crate::services::{Call, EXIT, READY_TICKS, SERVICES};
+use crate::kernel::FOREVER;
+use crate::services::{Call, ACQUIRE, EXIT, READY_TICKS, SERVICES, SLEEP};
 
 /// The header of a list with three or four numbers on every line.
 pub fn header(width: usize) -> &'static [u8] {
@@ -83,10 +84,35 @@ const TOO_LARGE: [&str; 8] = [
     "340282366920938463463374607431768211457",
 ];
 
+/// The word that may stand for an endless timeout.
+pub const WORD: &str = "forever";
+
+/// In no field can these be read.
+pub const NEARLY_THE_WORD: [&str; 18] = [
+    "Forever",
+    "FOREVER",
+    "foreveR",
+    "foreve",
+    "orever",
+    "forevers",
+    "forever1",
+    "1forever",
+    "forever ",
+    " forever",
+    "forever\t",
+    "forever\0",
+    "\"forever\"",
+    "for ever",
+    "forever4294967295",
+    "foreverforever",
+    "-forever",
+    "endless",
+];
+
 /// A damage makes of a call, in a list of this width, a line that can't be read, or nothing if the call has no place for it.
 type Damage = fn(&mut Rng, &Call, usize) -> Option<Vec<u8>>;
 
-pub const LINE_DAMAGES: [(&str, Damage); 23] = [
+pub const LINE_DAMAGES: [(&str, Damage); 26] = [
     ("empty line", |_, _, _| Some(Vec::new())),
     ("CR alone", |_, _, _| Some(b"\r".to_vec())),
     ("CR inside", |rng, call, width| inserted(rng, call, width, b"\r")),
@@ -114,6 +140,18 @@ pub const LINE_DAMAGES: [(&str, Damage); 23] = [
     }),
     ("not a digit", |rng, call, width| changed_number(rng, call, width, not_a_digit)),
     ("quotes", |rng, call, width| changed_number(rng, call, width, |_, n| format!("\"{n}\""))),
+    ("the word for another number", |rng, call, width| {
+        let others: Vec<usize> = (0..call.numbers()).filter(|&place| call.timeout() != Some(place)).collect();
+        (!others.is_empty()).then(|| with_field(call, width, 2 + rng.pick(&others), WORD))?
+    }),
+    ("nearly the word", |rng, call, width| {
+        changed_number(rng, call, width, |rng, _| rng.pick(&NEARLY_THE_WORD).to_string())
+    }),
+    ("nearly the word for a timeout", |rng, _, width| {
+        let calls = [Call::of(SLEEP, 1, 0, 0), Call::of(ACQUIRE, 1, 2, 0), Call::wait(1, 2, 0, 5)];
+        let call = rng.pick(&calls[..width - 1]);
+        with_field(&call, width, 2 + call.timeout()?, rng.pick(&NEARLY_THE_WORD))
+    }),
     ("foreign byte", |rng, call, width| {
         let byte = rng.pick(&[0, 9, 11, 12, 26, 34, 127, 128, 160, 0xef, 255]);
         inserted(rng, call, width, &[byte])
@@ -128,6 +166,13 @@ pub const LINE_DAMAGES: [(&str, Damage); 23] = [
 
 pub fn line(call: &Call, width: usize) -> Vec<u8> {
     call.line(width).into_bytes()
+}
+
+/// The line, half of the time with the word for an endless timeout.
+pub fn line_with_word(rng: &mut Rng, call: &Call, width: usize) -> Vec<u8> {
+    let endless = call.timeout().filter(|&place| [call.a, call.b, call.c, call.d][place] == FOREVER);
+    let worded = endless.filter(|_| rng.percent(50)).and_then(|place| with_field(call, width, 2 + place, WORD));
+    worded.unwrap_or_else(|| line(call, width))
 }
 
 fn fields(call: &Call, width: usize) -> Vec<String> {
@@ -157,7 +202,7 @@ fn unused_filled(rng: &mut Rng, call: &Call, width: usize) -> Option<Vec<u8>> {
         return None;
     }
     let place = 2 + used + rng.below(width - used);
-    with_field(call, width, place, rng.pick(&["0", "1", " ", "\"\"", "forever"]))
+    with_field(call, width, place, rng.pick(&["0", "1", " ", "\"\"", WORD]))
 }
 
 /// No service has a Z.
@@ -177,7 +222,7 @@ fn not_a_digit(rng: &mut Rng, number: &str) -> String {
 
 /// The bytes stand before some byte of the line, so never at its end.
 fn inserted(rng: &mut Rng, call: &Call, width: usize, bytes: &[u8]) -> Option<Vec<u8>> {
-    let line = line(call, width);
+    let line = line_with_word(rng, call, width);
     let place = rng.below(line.len());
     Some([&line[..place], bytes, &line[place..]].concat())
 }
@@ -209,12 +254,32 @@ pub fn join(rng: &mut Rng, lines: &[Vec<u8>]) -> Vec<u8> {
     file
 }
 
+/// Makes half of the calls' timeouts endless.
+pub fn make_endless(rng: &mut Rng, calls: &mut [Call]) {
+    for call in calls {
+        if rng.percent(50) {
+            match call.timeout() {
+                Some(0) => call.a = FOREVER,
+                Some(1) => call.b = FOREVER,
+                Some(2) => call.c = FOREVER,
+                Some(_) => call.d = FOREVER,
+                None => {}
+            }
+        }
+    }
+}
+
 /// A readable list of these calls.
 pub fn readable(rng: &mut Rng, calls: &[Call]) -> Vec<u8> {
     let width = width(rng, calls);
-    join(rng, &lines(calls, width))
+    let lines = lines_with_words(rng, calls, width);
+    join(rng, &lines)
 }
 
 pub fn lines(calls: &[Call], width: usize) -> Vec<Vec<u8>> {
     std::iter::once(header(width).to_vec()).chain(calls.iter().map(|call| line(call, width))).collect()
+}
+
+pub fn lines_with_words(rng: &mut Rng, calls: &[Call], width: usize) -> Vec<Vec<u8>> {
+    std::iter::once(header(width).to_vec()).chain(calls.iter().map(|call| line_with_word(rng, call, width))).collect()
 }

@@ -1,5 +1,5 @@
-//! An independent program of document 01's rules with the event flags of request P1, the charges of P3 and the times of entry of P10:
-//! 33 services, the sound state and the lists of calls.
+//! An independent program of document 01's rules with the event flags of request P1, the word for the endless wait of P2, the charges of
+//! P3 and the times of entry of P10: 33 services, the sound state and the lists of calls.
 //! It is written from the documents alone, so that the proved library can be tested and timed against it.
 
 mod flags;

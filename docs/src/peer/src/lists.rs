@@ -1,12 +1,13 @@
 //! Lists of calls: the whole file is read into calls, the calls are run from the fresh state, and the answer is copied once.
 //! Whatever is refused is refused before the answer buffer is touched.
 
-use crate::kernel::{Answer, Kernel};
+use crate::kernel::{Answer, Kernel, FOREVER};
 use crate::services::*;
 
 pub const LONGEST_FILE: usize = 65_536;
 const HEADER: &[u8] = b"ctx,service,a,b,c";
 const FOURTH: &[u8] = b",d"; // a header may go on so: then every line has a field more
+const ENDLESS: &[u8] = b"forever"; // a timeout may be written so, and no other number
 const ANSWER_HEADER: &[u8] = b"n,code,running\r\n";
 const SHORTEST_LINE: usize = 18; // T,tn_task_exit,,, and its line end
 const LONGEST_ROW: usize = 12; // 3639,-1,24 and its line end
@@ -74,7 +75,7 @@ fn read_line(line: &[u8], width: usize) -> Option<(Call, &[u8])> {
     for (place, number) in numbers[..width].iter_mut().enumerate() {
         rest = rest.strip_prefix(b",")?;
         if place < used {
-            (*number, rest) = read_number(rest)?;
+            (*number, rest) = read_number(rest).or_else(|| read_word(rest, service, place))?;
         } // else the field is blank: the next byte must end it
     }
     let [a, b, c, d] = numbers;
@@ -118,6 +119,13 @@ fn read_name(name: &[u8]) -> Option<u32> {
         b"tn_event_iwait" => EVENT_IWAIT,
         _ => return None,
     })
+}
+
+/// The endless timeout as a word, where no number begins, and what follows it: no other number of the service is written so.
+#[cold]
+fn read_word(field: &[u8], service: u32, place: usize) -> Option<(u32, &[u8])> {
+    let rest = field.strip_prefix(ENDLESS)?;
+    (SERVICES[service as usize].timeout == Some(place)).then_some((FOREVER, rest))
 }
 
 /// The number that begins here, and what follows its digits: no needless leading zero, at most 4,294,967,295.

@@ -1,5 +1,6 @@
-//! The 33 services by number: those of the base, those of event flags, and one that no list holds. Each has a name, so many numbers and
-//! a context. A call is one service with its context and numbers, and is shown as the line of a list that asks for it, or would.
+//! The 33 services by number: those of the base, those of event flags, and one that no list holds. Each has a name, so many numbers,
+//! a context, and perhaps a timeout. A call is one service with its context and numbers, and is shown as the line of a list that asks
+//! for it, or would.
 
 use std::fmt;
 
@@ -50,10 +51,17 @@ pub struct Service {
     pub name: &'static str,
     pub numbers: usize,
     pub context: u32,
+    /// Which of its numbers is a timeout, counted from 0.
+    pub timeout: Option<usize>,
 }
 
 const fn service(name: &'static str, numbers: usize, context: u32) -> Service {
-    Service { name, numbers, context }
+    Service { name, numbers, context, timeout: None }
+}
+
+/// A service whose last number is a timeout.
+const fn waiting(name: &'static str, numbers: usize, context: u32) -> Service {
+    Service { name, numbers, context, timeout: Some(numbers - 1) }
 }
 
 /// Place n holds service n; place 0 names nothing.
@@ -67,7 +75,7 @@ pub const SERVICES: [Service; LAST as usize + 1] = [
     service("tn_task_terminate", 1, T),
     service("tn_task_suspend", 1, T),
     service("tn_task_resume", 1, T),
-    service("tn_task_sleep", 1, T),
+    waiting("tn_task_sleep", 1, T),
     service("tn_task_wakeup", 1, T),
     service("tn_task_iwakeup", 1, I),
     service("tn_task_release_wait", 1, T),
@@ -79,7 +87,7 @@ pub const SERVICES: [Service; LAST as usize + 1] = [
     service("tn_sem_delete", 1, T),
     service("tn_sem_signal", 1, T),
     service("tn_sem_isignal", 1, I),
-    service("tn_sem_acquire", 2, T),
+    waiting("tn_sem_acquire", 2, T),
     service("tn_sem_polling", 1, T),
     service("tn_sem_ipolling", 1, I),
     service("tn_event_create", 3, T),
@@ -88,7 +96,7 @@ pub const SERVICES: [Service; LAST as usize + 1] = [
     service("tn_event_iset", 2, I),
     service("tn_event_clear", 2, T),
     service("tn_event_iclear", 2, I),
-    service("tn_event_wait", 4, T),
+    waiting("tn_event_wait", 4, T),
     service("tn_event_wait_polling", 3, T),
     service("tn_event_iwait", 3, I),
     service("ready_ticks", 1, T),
@@ -118,6 +126,11 @@ impl Call {
     /// How many numbers its service takes.
     pub fn numbers(&self) -> usize {
         SERVICES[self.service as usize].numbers
+    }
+
+    /// Which of its numbers is a timeout, as its service has it.
+    pub fn timeout(&self) -> Option<usize> {
+        SERVICES[self.service as usize].timeout
     }
 
     /// The line of a list that asks for this call, in a list with so many numbers on every line.

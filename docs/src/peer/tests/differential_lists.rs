@@ -3,8 +3,9 @@
 #![cfg(library)]
 
 use peer::gen::{Rng, World};
-use peer::gen_files::{bad_end, bad_list, damage_bytes, exact};
-use peer::gen_lists::readable;
+use peer::gen_files::{bad_end, bad_list, damage_bytes, exact, put_word};
+use peer::gen_lists::{make_endless, readable, WORD};
+use peer::lists::LONGEST_FILE;
 use peer::shrink::shrink;
 
 mod library;
@@ -73,6 +74,38 @@ fn random_lists() {
     }
 }
 
+/// What the library gives and leaves in the buffer.
+fn library_answer(file: &[u8]) -> (i64, Vec<u8>) {
+    let mut answer = filled(LONGEST_FILE);
+    (library::list(file, &mut answer), answer)
+}
+
+#[test]
+fn the_word_and_its_digits() {
+    let short = (0..2_000).map(|seed| {
+        let mut world = World::of_lists(seed);
+        let length = world.rng.below(150);
+        let mut calls = world.run(length);
+        make_endless(&mut world.rng, &mut calls);
+        readable(&mut world.rng, &calls)
+    });
+    let (mut compared, mut most) = (0, 0);
+    for file in short.chain((0..40).map(|seed| exact(seed, 64_000))) {
+        let words = String::from_utf8(file).expect("a readable list is ASCII");
+        let digits = words.replace(WORD, "4294967295");
+        if words == digits || digits.len() > LONGEST_FILE {
+            continue;
+        }
+        test("with words", words.as_bytes());
+        let (result, answer) = library_answer(words.as_bytes());
+        assert!(result > 0, "{result}: {words:?}");
+        assert!((result, answer) == library_answer(digits.as_bytes()), "{words:?}");
+        compared += 1;
+        most = most.max(digits.len());
+    }
+    assert!(compared > 500 && most > 64_000, "{compared} lists, the longest of {most} bytes");
+}
+
 #[test]
 fn every_buffer_size() {
     let mut world = World::of_lists(21);
@@ -95,6 +128,18 @@ fn damaged_lines() {
         let mut answer = [0; 1_000];
         assert_eq!(peer::lists::run_list(&bad.file, &mut answer), -(10 + bad.line as i64), "{}", bad.damage);
         test(&format!("seed {seed}, {}", bad.damage), &bad.file);
+    }
+}
+
+#[test]
+fn words_in_any_field() {
+    for seed in 0..10_000 {
+        let mut world = World::of_lists(seed);
+        let length = world.rng.from(1, 20) as usize;
+        let calls = world.run(length);
+        let mut file = readable(&mut world.rng, &calls);
+        put_word(&mut world.rng, &mut file);
+        test(&format!("seed {seed}"), &file);
     }
 }
 

@@ -6,7 +6,8 @@ mod meetings;
 use common::Bench;
 use meetings::meetings;
 use peer::gen::{Rng, World};
-use peer::gen_lists::{lines, readable};
+use peer::gen_files::{bad_list, put_word};
+use peer::gen_lists::{join, lines, make_endless, readable, NEARLY_THE_WORD, WORD};
 use peer::gen_states::{any_times, charges, damage, entries, reached, start};
 use peer::layout::{load, State};
 use peer::lists::{read_list, run_calls};
@@ -201,4 +202,61 @@ fn lists_of_random_calls_are_read_back() {
         assert_eq!(lines(&read, 4), lines(&calls, 4)); // unused numbers are not written
         assert_eq!(run_calls(&read), run_calls(&calls));
     }
+}
+
+fn has(bytes: &[u8], text: &str) -> bool {
+    bytes.windows(text.len()).any(|part| part == text.as_bytes())
+}
+
+#[test]
+fn readable_lists_have_the_word_in_every_timeout() {
+    for (what, endless) in [("as they come", false), ("endless", true)] {
+        let mut met: BTreeMap<(String, usize), usize> = BTreeMap::new();
+        for seed in 0..1_000 {
+            let mut world = World::of_lists(seed);
+            let mut calls = world.run(150);
+            if endless {
+                make_endless(&mut world.rng, &mut calls);
+            }
+            let text = String::from_utf8(readable(&mut world.rng, &calls)).expect("a readable list is ASCII");
+            for line in text.lines().filter(|line| line.contains(WORD)) {
+                let fields: Vec<&str> = line.split(',').collect();
+                *met.entry((fields[1].to_string(), fields.len())).or_default() += 1;
+            }
+        }
+        println!("{what}: {met:#?}");
+        let places: Vec<(&str, usize)> = met.keys().map(|(service, fields)| (service.as_str(), *fields)).collect();
+        let [wait, acquire, sleep] = ["tn_event_wait", "tn_sem_acquire", "tn_task_sleep"];
+        assert_eq!(places, [(wait, 6), (acquire, 5), (acquire, 6), (sleep, 5), (sleep, 6)]);
+        let least = if endless { 100 } else { 10 };
+        assert!(met.values().all(|&times| times >= least), "{what}");
+    }
+}
+
+#[test]
+fn damaged_lists_have_the_word_and_nearly_the_word() {
+    let mut rng = Rng::new(23);
+    let mut met: BTreeMap<(&str, &str), usize> = BTreeMap::new();
+    for seed in 0..10_000 {
+        let calls = World::of_lists(seed).run(20);
+        let bad = bad_list(&mut rng, &calls);
+        let line = bad.file.split(|&byte| byte == b'\n').nth(bad.line - 1).expect("the damaged line");
+        for text in NEARLY_THE_WORD.into_iter().chain([WORD]).filter(|text| has(line, text)) {
+            *met.entry((bad.damage, text)).or_default() += 1;
+        }
+        let mut file = join(&mut rng, &lines(&calls, 4)); // without the word
+        put_word(&mut rng, &mut file);
+        if has(&file, WORD) {
+            *met.entry(("put", if read_list(&file).is_ok() { "read" } else { "refused" })).or_default() += 1;
+        }
+    }
+    println!("{met:#?}");
+    let with_it =
+        ["the word for another number", "unused field filled", "foreign byte", "CR inside"].map(|what| (what, WORD));
+    let nearly = ["nearly the word", "nearly the word for a timeout"].into_iter();
+    let nearly = nearly.flat_map(|damage| NEARLY_THE_WORD.map(|near| (damage, near)));
+    for what in nearly.chain(with_it) {
+        assert!(met.get(&what).is_some_and(|&times| times >= 5), "{what:?}");
+    }
+    assert!(met[&("put", "read")] >= 100 && met[&("put", "refused")] >= 1_000);
 }

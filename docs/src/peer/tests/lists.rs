@@ -1,6 +1,7 @@
 //! Lists of calls: document 01's worked list, its refusals and their order, and files damaged in every way.
-//! Buffers are filled beforehand, so that every byte beyond an answer, and every byte on a refusal, is seen to stay.
 
+mod answers;
+use answers::{code_of, run, FILL};
 use peer::gen::{Rng, World};
 use peer::gen_files::{bad_end, bad_list, damage_bytes, exact};
 use peer::gen_lists::{damaged_line, header, join, lines, readable, BAD_HEADERS, LINE_DAMAGES};
@@ -21,22 +22,6 @@ T,tn_sem_polling,1,,
 ";
 const WORKED_ANSWER: &str = "n,code,running\r\n1,0,0\r\n2,0,1\r\n3,0,1\r\n4,1,2\r\n5,0,2\r\n6,0,2\r\n7,0,2\r\n\
                              8,-1,2\r\n9,0,1\r\n10,0,1\r\n";
-
-const FILL: u8 = 0xa5;
-
-/// The runner's number and what it wrote into a buffer that is large enough; the rest of the buffer must stay.
-fn run(file: &[u8]) -> (i64, Vec<u8>) {
-    let mut answer = vec![FILL; file.len() + 100]; // a row is shorter than its line
-    let result = run_list(file, &mut answer);
-    let written = usize::try_from(result).unwrap_or(0);
-    assert!(answer[written..].iter().all(|&byte| byte == FILL));
-    answer.truncate(written);
-    (result, answer)
-}
-
-fn code_of(file: &[u8]) -> i64 {
-    run(file).0
-}
 
 fn with_header(rest: &str) -> Vec<u8> {
     format!("ctx,service,a,b,c\n{rest}").into_bytes()
