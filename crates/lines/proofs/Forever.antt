@@ -7,6 +7,7 @@ use Rattle.model.specs.declared.Context.the-variants.{T, I}
 use Rattle.model.specs.declared.Call.the-variants.{TaskSleep, SemAcquire, OnFlag}
 use Rattle.model.specs.declared.FlagService.the-variants.{Wait}
 use Rattle.lines.specs.declared.line.Line.the-variants.{Reads, Unreadable}
+use Rattle.lines.specs.Fields.{endOf}
 use Rattle.lines.proofs.Vectors.{Row, _reads_, given, wanted, reader}
 
 -- in a timeout's field, and in every other kind of field
@@ -101,13 +102,13 @@ wideWords =
     ∷ []
 
 pub words-read : given false words ≡ wanted words
-unfolding words reader
+unfolding words reader endOf
 words-read = refl
 
 pub near-misses-read : given false nearMisses ≡ wanted nearMisses
-unfolding nearMisses reader
+unfolding nearMisses reader endOf
 near-misses-read = refl
 
 pub wide-words-read : given true wideWords ≡ wanted wideWords
-unfolding wideWords reader
+unfolding wideWords reader endOf
 wide-words-read = refl

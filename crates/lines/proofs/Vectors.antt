@@ -20,9 +20,9 @@ use Rattle.lines.specs.declared.line.Header.the-variants.{Ends, NoHeader
 use Rattle.lines.specs.Fields.{saidOf, fieldOf, commaField, endOf, lastField, narrowTail, wideTail, tailOf, fieldsOf}
 use Rattle.lines.specs.Lines.{letterOf, lineOf, headed, headerOf}
 
--- the whole reader of a line: a proof that computes a line names this
+-- the whole reader of a line but for its line end: a proof that computes a line names this
 unfoldable pub reader : ℕ
-unfolding lineOf letterOf nameOf nameIn label table fieldsOf tailOf narrowTail wideTail takesAt takesIn fieldOf saidOf commaField lastField endOf numberOf numeral valueAfter digits isDigit begins
+unfolding lineOf letterOf nameOf nameIn label table fieldsOf tailOf narrowTail wideTail takesAt takesIn fieldOf saidOf commaField lastField numberOf numeral valueAfter digits isDigit begins
 reader = 0
 
 infix 20 _reads_
@@ -107,11 +107,11 @@ wideRows =
     ∷ []
 
 pub lines-read : given false rows ≡ wanted rows
-unfolding rows reader
+unfolding rows reader endOf
 lines-read = refl
 
 pub wide-lines-read : given true wideRows ≡ wanted wideRows
-unfolding wideRows reader
+unfolding wideRows reader endOf
 wide-lines-read = refl
 
 abbrev pub headers : List Header

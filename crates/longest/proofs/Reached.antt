@@ -9,7 +9,6 @@ use native.Mathlib.Omega.{arith}
 use lib.ListN.{length, length-append}
 use borrow.Author.Tests.{ne-eqb, le-ltb}
 use Rattle.text.specs.Bytes.{bytes, begins}
-use Rattle.text.specs.Number.{isDigit, digits, valueAfter, numeral, numberOf}
 use Rattle.text.specs.Decimal.{decimal, decimalIn}
 use Rattle.model.specs.declared.State.{State}
 use Rattle.model.specs.declared.Context.the-variants.{T, I}
@@ -30,9 +29,9 @@ use Rattle.lines.specs.declared.line.Header.the-variants.{Ends}
 use Rattle.lines.specs.declared.fields.End.the-variants.{Closes}
 use Rattle.model.specs.Services.{isMine}
 use Rattle.model.proofs.Words.{table}
-use Rattle.services.specs.Names.{label, nameIn, nameOf}
-use Rattle.lines.specs.Fields.{fieldOf, commaField, endOf, lastField, narrowTail, wideTail, tailOf, fieldsOf}
-use Rattle.lines.specs.Lines.{letterOf, lineOf, headed, headerOf}
+use Rattle.lines.specs.Fields.{endOf}
+use Rattle.lines.specs.Lines.{lineOf, headed, headerOf}
+use Rattle.lines.proofs.Vectors.{reader}
 use Rattle.runner.specs.declared.Ran.the-variants.{Wrote}
 use Rattle.walk.specs.Script.{Script, done, next, scriptIn, scriptOf, faultOf}
 use Rattle.walk.specs.Rows.{Row, rowsBy, rowsOf, signed, rowsText, textOf}
@@ -51,17 +50,17 @@ size false = 17
 size true = 18
 
 exit-line : (wide : Bool) (rest : List ℕ) → lineOf wide (refusal wide ++ (10 ∷ rest)) ≡ Reads I TaskExit (suc (size wide))
-unfolding lineOf letterOf nameOf nameIn table label begins fieldsOf tailOf narrowTail wideTail commaField lastField fieldOf
+unfolding reader
 exit-line false rest = simp (feed rest)
 exit-line true rest = simp (feed rest)
 
 last-line : (wide : Bool) → lineOf wide (refusal wide) ≡ Reads I TaskExit (size wide)
-unfolding lineOf letterOf nameOf nameIn table label begins fieldsOf tailOf narrowTail wideTail commaField lastField fieldOf endOf
+unfolding reader endOf
 last-line false = refl
 last-line true = refl
 
 create-line : (rest : List ℕ) → lineOf false (bytes "T,tn_task_create,10,1,1\n" ++ rest) ≡ Reads T (TaskCreate 10 1 1) 24
-unfolding lineOf letterOf nameOf nameIn table label begins fieldsOf tailOf narrowTail commaField lastField fieldOf numberOf isDigit digits valueAfter numeral
+unfolding reader
 create-line rest = simp (feed rest)
 
 header-line : (rest : List ℕ) → headerOf (bytes "ctx,service,a,b,c\n" ++ rest) ≡ Ends false 18
