@@ -7,7 +7,7 @@ use mathlib.Core.List.{List, [], _∷_, _++_}
 use native.Mathlib.Omega.{arith}
 use lib.Dec.{leb, eqb}
 use lib.ListN.{length, getD, drop}
-use lib.Seq.{drop-drop, getD-drop}
+use lib.Seq.{drop-drop}
 use borrow.Author.Tests.{eq-eqb, eqb-true}
 use Rattle.text.specs.declared.number.Number.{Number}
 use Rattle.text.specs.declared.number.Number.the-variants.{Digits, NoNumber}
@@ -23,8 +23,8 @@ use Rattle.lines.specs.declared.fields.Said.the-variants.{Says, Forever, Unsaid
 use Rattle.lines.specs.declared.fields.End.{End}
 use Rattle.lines.specs.declared.fields.End.the-variants.{Closes, NoEnd}
 use Rattle.lines.specs.Fields.{word as forever, numberOr, saidOf, ticks, plain, fieldOf, numberThen, commaField, endOf, endThen, lastField}
-use Rattle.spelling.specs.Statement.{Spelled, done, same, word}
-use Rattle.spelling.proofs.Spelled.{NoWord, head-same, tail-same, empty-same, clean, begins-same, begins-rest, digits-same, number-same, Counted, number-counted, Reads, further}
+use Rattle.spelling.specs.Statement.{inDigits, Spelled, done, same, word}
+use Rattle.spelling.proofs.Spelled.{NoWord, head-same, tail-same, empty-same, clean, begins-same, begins-rest, digits-same, number-same, Counted, number-counted, Reads, at-drop, not-empty}
 
 -- ---- what may end a field
 abbrev pub Stops : ℕ → Type 0
@@ -38,7 +38,7 @@ number-on {s} {t} p v n e stop =
     (number-same p clear ∙ e, rw (← q) at (digits-same p clear .1))
 
 -- digits that a stop follows are the endless wait
-spelled-out : (t : List ℕ) → isDigit (getD t 0 0) ≡ false → numberOf (bytes "4294967295" ++ t) ≡ Digits endless 10
+spelled-out : (t : List ℕ) → isDigit (getD t 0 0) ≡ false → numberOf (inDigits ++ t) ≡ Digits endless 10
 unfolding numberOf numeral digits isDigit valueAfter
 spelled-out [] h = refl
 spelled-out (b ∷ t) h = rw h
@@ -108,9 +108,9 @@ comma-on {s} {t} takes p = go (fieldOf takes s) (field-on takes p)
     made : (v n : ℕ) → getD s n 0 ≡ 44 → Reads (Digits v) (fieldOf takes t) (drop n s) t
         → Reads (Digits v) (numberThen (fieldOf takes t) (λ v n. cond (eqb (getD t n 0) 44) (Digits v (n + 1)) NoNumber)) (drop (n + 1) s) t
     made v n e x =
-        let at : getD (drop n s) 0 0 ≡ 44 = getD-drop n s 0 0 ∙ e in
+        let at : getD (drop n s) 0 0 ≡ 44 = at-drop n s ∙ e in
         let clear : NoWord (drop n s) = λ q. omega (arith, at, q) in
-        let byte : getD t (x .next) 0 ≡ 44 = sym (getD-drop (x .next) t 0 0) ∙ head-same (x .follows) clear ∙ at in
+        let byte : getD t (x .next) 0 ≡ 44 = sym (at-drop (x .next) t) ∙ head-same (x .follows) clear ∙ at in
         record {
           next = x .next + 1;
           reads = simp (x .reads) (simp (eq-eqb _ 44 byte));
@@ -140,7 +140,7 @@ EndOn NoEnd s t = Unit
 empty-stops : (s : List ℕ) → eqb (length s) 0 ≡ true → Stops (getD s 0 0)
 unfolding isDigit
 empty-stops [] e = (λ q. omega (arith, q), refl)
-empty-stops (b ∷ s) e = absurd (false≢true e)
+empty-stops (b ∷ s) e = absurd (false≢true (sym (not-empty b s) ∙ e))
 
 byte-stops : (s u : List ℕ) (b : ℕ) → begins s (b ∷ u) ≡ true → Stops b → Stops (getD s 0 0)
 byte-stops s u b e stop = rw (begins-at s (b ∷ u) e 0 (omega arith)) stop
@@ -171,7 +171,7 @@ last-on {s} {t} takes p = go (fieldOf takes s) (field-on takes p)
     made : (v n : ℕ) → (Stops (getD s n 0) → Reads (Digits v) (fieldOf takes t) (drop n s) t)
         → (x : End) → endOf (drop n s) ≡ x → EndStops x (drop n s) → Wanted (endThen x (λ k. Digits v (n + k)))
     made v n f (Closes k) e stop =
-        let x = f (rw (getD-drop n s 0 0) at stop) in
+        let x = f (rw (at-drop n s) at stop) in
         record {
           next = x .next + k;
           reads = simp (x .reads) (simp (end-same (x .follows) ∙ e));

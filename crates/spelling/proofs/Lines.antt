@@ -141,9 +141,10 @@ unfolding nameIn cleanAll
 name-among [] c k p = (refl, tt)
 name-among {s} {t} (x ∷ xs) c k p =
     let here = both-left (clean (label x)) (cleanAll xs) c in
-    let more = name-among xs (both-right (clean (label x)) (cleanAll xs) c) (k + 1) p in
-    (rw (begins-same (label x) here p, more .0),
-    cond-by (λ (y : Name). NameOn y s t) (begun s x) (Known k (length (label x))) (nameIn xs (k + 1) s) (λ e. begins-rest (label x) here p (begun-begins s x e)) (more .1))
+    let more = name-among xs (both-right (clean (label x)) (cleanAll xs) c) (k + 1) p in (
+      rw (begins-same (label x) here p, more .0),
+      cond-by (λ (y : Name). NameOn y s t) (begun s x) (Known k (length (label x))) (nameIn xs (k + 1) s) (λ e. begins-rest (label x) here p (begun-begins s x e)) (more .1),
+    )
 
 name-on : {s t : List ℕ} → Spelled s t → (nameOf t ≡ nameOf s) × NameOn (nameOf s) s t
 unfolding nameOf table label clean cleanAll
@@ -207,6 +208,7 @@ pub header-on : {s t : List ℕ} → Spelled s t → (headerOf t ≡ headerOf s)
 unfolding headerOf clean
 header-on {s} {t} p =
     let wide = headed-on (bytes "ctx,service,a,b,c,d") true tt p in
-    let narrow = headed-on (bytes "ctx,service,a,b,c") false tt p in
-    (rw (begins-same (bytes "ctx,service,a,b,c,d") tt p, wide .0, narrow .0),
-    cond-by (λ (y : Header). HeaderOn y s t) (begins s (bytes "ctx,service,a,b,c,d")) (headed (bytes "ctx,service,a,b,c,d") true s) (headed (bytes "ctx,service,a,b,c") false s) (λ _. wide .1) (narrow .1))
+    let narrow = headed-on (bytes "ctx,service,a,b,c") false tt p in (
+      rw (begins-same (bytes "ctx,service,a,b,c,d") tt p, wide .0, narrow .0),
+      cond-by (λ (y : Header). HeaderOn y s t) (begins s (bytes "ctx,service,a,b,c,d")) (headed (bytes "ctx,service,a,b,c,d") true s) (headed (bytes "ctx,service,a,b,c") false s) (λ _. wide .1) (narrow .1),
+    )

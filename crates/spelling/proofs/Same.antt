@@ -50,7 +50,7 @@ module _ (wide : Bool) where
   lines-same : (most : ℕ) (s t : List ℕ) (l : ℕ) → length s ≤ most → 0 < l → Spelled s t → faultOf (scriptIn wide 0 s l) ≡ 0 → scriptIn wide 0 t l ≡ scriptIn wide 0 s l
   unfolding faultOf
   lines-same zero s t l h g p e = ap (λ (x : List ℕ). scriptIn wide 0 x l) (none-same p (omega arith))
-  lines-same (suc most) s t l h g p e = by (decLt 0 (length s))
+  lines-same (suc most) s t l h g p e = by (decLt 0 (length s)) (λ s t h p e. lines-same most s t (l + 1) h (omega arith) p e)
     where
       go : 0 < length s → (x : Line) → lineOf wide s ≡ x → LineOn x (lineOf wide t) s t → LineIn x (length s)
           → ((s t : List ℕ) → length s ≤ most → Spelled s t → faultOf (scriptIn wide 0 s (l + 1)) ≡ 0 → scriptIn wide 0 t (l + 1) ≡ scriptIn wide 0 s (l + 1))
@@ -63,9 +63,11 @@ module _ (wide : Bool) where
           ∙ sym here
       go some NoLine q y inside ih = absurd (omega (arith, g, rw (script-fault wide s 0 l some q) at e))
 
-      by : Dec (0 < length s) → scriptIn wide 0 t l ≡ scriptIn wide 0 s l
-      by (yes some) = go some (lineOf wide s) refl (line-on wide p) (line-in wide s) (λ s t h p e. lines-same most s t (l + 1) h (omega arith) p e)
-      by (no none) = ap (λ (x : List ℕ). scriptIn wide 0 x l) (none-same p (omega arith))
+      by : Dec (0 < length s)
+          → ((s t : List ℕ) → length s ≤ most → Spelled s t → faultOf (scriptIn wide 0 s (l + 1)) ≡ 0 → scriptIn wide 0 t (l + 1) ≡ scriptIn wide 0 s (l + 1))
+          → scriptIn wide 0 t l ≡ scriptIn wide 0 s l
+      by (yes some) ih = go some (lineOf wide s) refl (line-on wide p) (line-in wide s) ih
+      by (no none) ih = ap (λ (x : List ℕ). scriptIn wide 0 x l) (none-same p (omega arith))
 
 -- ---- the file
 pub same-calls : SameCalls

@@ -8,13 +8,14 @@ use native.Mathlib.Omega.{arith}
 use lib.Dec.{T as So, leb, eqb}
 use lib.ListN.{length, getD, drop}
 use lib.Seq.{drop-drop, getD-drop}
+use borrow.Author.Tests.{ne-eqb}
 use Rattle.text.specs.declared.number.Number.{Number}
 use Rattle.text.specs.declared.number.Number.the-variants.{Digits, NoNumber}
 use Rattle.text.specs.Number.{isDigit, digits, valueAfter, numeral, numberOf}
 use Rattle.text.specs.Bytes.{bytes, begins}
 use Rattle.text.proofs.Reading.{cond-by}
 use Rattle.services.proofs.Numbers.{both-left, both-right}
-use Rattle.spelling.specs.Statement.{Spelled, done, same, word}
+use Rattle.spelling.specs.Statement.{inDigits, Spelled, done, same, word}
 
 -- ---- the first byte
 abbrev pub NoWord : List ℕ → Type 0
@@ -30,10 +31,13 @@ tail-same done h = done
 tail-same (same b p) h = p
 tail-same (word p) h = absurd (h refl)
 
+pub not-empty : (b : ℕ) (s : List ℕ) → eqb (length (b ∷ s)) 0 ≡ false
+not-empty b s = ne-eqb (suc (length s)) 0 (λ e. omega (arith, e))
+
 pub empty-same : {s t : List ℕ} → Spelled s t → eqb (length t) 0 ≡ eqb (length s) 0
 empty-same done = refl
-empty-same (same b p) = refl
-empty-same (word p) = refl
+empty-same (same {s} {t} b p) = not-empty b t ∙ sym (not-empty b s)
+empty-same (word {s} {t} p) = not-empty 52 (drop 1 inDigits ++ t) ∙ sym (not-empty 102 (bytes "orever" ++ s))
 
 -- ---- a text without those two bytes
 unfoldable pub clean : List ℕ → Bool
@@ -114,6 +118,10 @@ pub record Reads {A : Type 0} (make : ℕ → A) (r : A) (rest t : List ℕ) : T
   pub next : ℕ
   pub reads : r ≡ make next
   pub follows : Spelled rest (drop next t)
+
+-- the first byte after n is the n-th
+pub at-drop : (n : ℕ) (s : List ℕ) → getD (drop n s) 0 0 ≡ getD s n 0
+at-drop n s = let e : n + 0 ≡ n = omega arith in getD-drop n s 0 0 ∙ ap (λ (k : ℕ). getD s k 0) e
 
 -- after i bytes of the one and k of the other
 pub further : {A : Type 0} {make : ℕ → A} {r : A} (s t : List ℕ) (i j k : ℕ) (x : Reads make r (drop j (drop i s)) (drop k t)) → Spelled (drop (i + j) s) (drop (k + x .next) t)

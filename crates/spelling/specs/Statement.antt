@@ -8,11 +8,15 @@ use Rattle.text.specs.Bytes.{bytes}
 use Rattle.walk.specs.Script.{scriptOf, faultOf}
 use Rattle.runner.specs.Outcome.{ranOf, bufferOf}
 
+-- the digits that the word stands for
+abbrev pub inDigits : List ℕ
+inDigits = bytes "4294967295"
+
 -- t is s with some of its words written in digits, wherever they stand
 pub data Spelled : List ℕ → List ℕ → Type 0 where
   done : Spelled [] []
-  same : (b : ℕ) {s t : List ℕ} → Spelled s t → Spelled (b ∷ s) (b ∷ t)
-  word : {s t : List ℕ} → Spelled s t → Spelled (bytes "forever" ++ s) (bytes "4294967295" ++ t)
+  same : {s t : List ℕ} (b : ℕ) → Spelled s t → Spelled (b ∷ s) (b ∷ t)
+  word : {s t : List ℕ} → Spelled s t → Spelled (bytes "forever" ++ s) (inDigits ++ t)
 
 -- if every line of s reads
 abbrev pub SameCalls : Type 0
