@@ -28,6 +28,7 @@ pub of-services : List Promise
 of-services =
     of services.calls.call_of.signature (λ M. services.calls.call_of.clauses) (λ M. services.calls.call_of.Met.met) (λ w κs a g h o p. plain w result) ∷
     of services.names.read_name.signature (λ M. services.names.read_name.clauses) (λ M. services.names.read_name.Met.met) (λ w κs a g h o p. plain w result) ∷
+    of services.takes.takes_at.signature (λ M. services.takes.takes_at.clauses) (λ M. services.takes.takes_at.Met.met) (λ w κs a g h o p. plain w result) ∷
     []
 
 pub of-border : List Promise
