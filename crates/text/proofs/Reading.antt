@@ -2,12 +2,12 @@
 -- It rests on the definitions of specs/Number.
 use Prim.Native.Nat.{ℕ, suc, _+_, _-_, _*_, _<_, _≤_}
 use mathlib.Core.Path.{_≡_, refl, sym, ap, _∙_}
-use mathlib.Core.Bool.{Bool, true, false, cond, and-false}
+use mathlib.Core.Bool.{Bool, true, false, cond, _&&_, _||_, and-false, false≢true}
 use mathlib.Core.List.{List, [], _∷_}
 use native.Mathlib.Omega.{arith}
-use lib.Dec.{leb, eqb}
+use lib.Dec.{leb, ltb, eqb}
 use lib.ListN.{length, getD, drop, drop-of-length-le}
-use borrow.Author.Tests.{le-leb, lt-leb}
+use borrow.Author.Tests.{le-leb, lt-leb, ltb-true, ltb-false}
 use Rattle.text.specs.declared.number.Number.{Number}
 use Rattle.text.specs.declared.number.Number.the-variants.{Digits, NoNumber}
 use Rattle.text.specs.Number.{isDigit, digits, valueAfter, numeral, numberOf}
@@ -17,13 +17,35 @@ pub digit-in : (b : ℕ) → 48 ≤ b → b ≤ 57 → isDigit b ≡ true
 unfolding isDigit
 digit-in b h g = rw (le-leb 48 b h, le-leb b 57 g)
 
-pub digit-low : (b : ℕ) → b < 48 → isDigit b ≡ false
-unfolding isDigit
-digit-low b h = rw (lt-leb 48 b h)
+-- the test that ends the loop, and what it says of a byte
+abbrev pub outside : ℕ → Bool
+outside b = ltb b 48 || ltb 57 b
 
-pub digit-high : (b : ℕ) → 57 < b → isDigit b ≡ false
+pub no-digit : (b : ℕ) → outside b ≡ true → isDigit b ≡ false
 unfolding isDigit
-digit-high b h = rw (lt-leb b 57 h, and-false)
+no-digit b e = go (ltb b 48) refl (ltb 57 b) refl e
+  where
+    go : (x : Bool) → ltb b 48 ≡ x → (y : Bool) → ltb 57 b ≡ y → x || y ≡ true → leb 48 b && leb b 57 ≡ false
+    go true p y q e = rw (lt-leb 48 b (ltb-true b 48 p))
+    go false p true q e = rw (lt-leb b 57 (ltb-true 57 b q), and-false)
+    go false p false q e = absurd (false≢true e)
+
+pub digit-least : (b : ℕ) → outside b ≡ false → 48 ≤ b
+digit-least b e = go (ltb b 48) refl e
+  where
+    go : (x : Bool) → ltb b 48 ≡ x → x || ltb 57 b ≡ false → 48 ≤ b
+    go true p e = absurd (false≢true (sym e))
+    go false p e = ltb-false b 48 p
+
+pub digit-most : (b : ℕ) → outside b ≡ false → b ≤ 57
+digit-most b e = go (ltb b 48) e
+  where
+    go : (x : Bool) → x || ltb 57 b ≡ false → b ≤ 57
+    go true e = absurd (false≢true (sym e))
+    go false e = ltb-false 57 b e
+
+pub a-digit : (b : ℕ) → outside b ≡ false → isDigit b ≡ true
+a-digit b e = digit-in b (digit-least b e) (digit-most b e)
 
 value-grows : (v : ℕ) (ds : List ℕ) → v ≤ valueAfter v ds
 unfolding valueAfter

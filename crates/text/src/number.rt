@@ -37,11 +37,8 @@ pub fn read_number(s: &[u8]) -> Number
     let mut i: usize = 0;
     while i < s.len() {
         let b = s[i];
-        if b < 48 {
-            return numeral(first, value, i);
-        }
-        if 57 < b {
-            return numeral(first, value, i);
+        if (b < 48) | (57 < b) {
+            break;
         }
         let more = (value as u64) * 10 + (b - 48) as u64;
         if 4294967295 < more {

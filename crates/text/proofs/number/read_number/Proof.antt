@@ -2,9 +2,10 @@
 -- It rests on the laws of reading, digit by digit.
 use Prim.Native.Nat.{_≤_, _<_, _-_}
 use mathlib.Core.Path.{_∙_}
+use mathlib.Core.Logic.{inl, inr}
 use native.Mathlib.Omega.{arith}
-use lib.ListN.{length}
-use Rattle.text.proofs.Reading.{Left, digit-in, digit-low, digit-high, left-all, left-on, left-stop, left-end, left-over, number-empty}
+use lib.ListN.{length, getD}
+use Rattle.text.proofs.Reading.{Left, no-digit, digit-least, digit-most, a-digit, left-all, left-on, left-stop, left-end, left-over, number-empty}
 use borrow.Author.Needs.{needs}
 use Rattle.text.proofs.number.read_number.Statement.{statement}
 use Rattle.text.proofs.number.read_number.Tie as tie
@@ -27,32 +28,23 @@ loop-holds c = (omega arith, omega arith, left-all _)
 shared-slice-read-b : tie.Need-shared-slice-read-b Inv-loop μ-loop
 shared-slice-read-b c = search needs
 
-numeral-requires : tie.Need-numeral-requires Inv-loop μ-loop
-numeral-requires c κs = search needs
-
-returns-2 : tie.Need-returns-2 Inv-loop μ-loop
-returns-2 c = c .numeral .ensures ∙ left-stop _ _ _ (c .before .before .before .before .loop .inv .2) (c .before .before .before .before .loop .inv .1) (c .before .before .before .loop-test .taken) (digit-low _ (c .before .if2 .taken))
-
-numeral-requires-2 : tie.Need-numeral-requires-2 Inv-loop μ-loop
-numeral-requires-2 c κs = search needs
-
-returns-3 : tie.Need-returns-3 Inv-loop μ-loop
-returns-3 c = c .numeral2 .ensures ∙ left-stop _ _ _ (c .before .before .before .before .before .loop .inv .2) (c .before .before .before .before .before .loop .inv .1) (c .before .before .before .before .loop-test .taken) (digit-high _ (c .before .if3 .taken))
-
 cast-more : tie.Need-cast-more Inv-loop μ-loop
 cast-more c = search needs
 
 mul-more : tie.Need-mul-more Inv-loop μ-loop
 mul-more c = search needs
 
+sub-more : tie.Need-sub-more Inv-loop μ-loop
+sub-more c = digit-least _ (c .if2 .left)
+
 cast-more-2 : tie.Need-cast-more-2 Inv-loop μ-loop
-cast-more-2 c = search needs
+cast-more-2 c = search (needs, digit-most (getD (c .before .before .before .before .before .before .before .args .s .now) (c .before .before .before .loop .i) 0) (c .if2 .left))
 
 add-more : tie.Need-add-more Inv-loop μ-loop
-add-more c = search needs
+add-more c = search (needs, digit-most (getD (c .before .before .before .before .before .before .before .args .s .now) (c .before .before .before .loop .i) 0) (c .if2 .left))
 
-returns-4 : tie.Need-returns-4 Inv-loop μ-loop
-returns-4 c = left-over _ _ _ (left-on _ _ _ (c .before .before .before .before .before .loop .inv .2) (c .before .before .before .before .loop-test .taken) (digit-in _ (c .before .before .if2 .left) (c .before .if3 .left))) (omega (arith, c .if4 .taken))
+returns-2 : tie.Need-returns-2 Inv-loop μ-loop
+returns-2 c = left-over _ _ _ (left-on _ _ _ (c .before .before .before .before .loop .inv .2) (c .before .before .before .loop-test .taken) (a-digit _ (c .before .if2 .left))) (omega (arith, c .if3 .taken))
 
 cast-value : tie.Need-cast-value Inv-loop μ-loop
 cast-value c = search needs
@@ -64,13 +56,19 @@ loop-less : tie.Need-loop-less Inv-loop μ-loop
 loop-less c = search needs
 
 loop-again : tie.Need-loop-again Inv-loop μ-loop
-loop-again c = (omega arith, omega (arith, c .if4 .left), left-on _ _ _ (c .before .before .before .before .before .loop .inv .2) (c .before .before .before .before .loop-test .taken) (digit-in _ (c .before .before .if2 .left) (c .before .if3 .left)))
+loop-again c = (omega arith, omega (arith, c .if3 .left), left-on _ _ _ (c .before .before .before .before .loop .inv .2) (c .before .before .before .loop-test .taken) (a-digit _ (c .before .if2 .left)))
 
-numeral-requires-3 : tie.Need-numeral-requires-3 Inv-loop μ-loop
-numeral-requires-3 c κs = search needs
+numeral-requires : tie.Need-numeral-requires Inv-loop μ-loop
+numeral-requires c κs = search needs
 
-returns-5 : tie.Need-returns-5 Inv-loop μ-loop
-returns-5 c = c .numeral3 .ensures ∙ left-end _ _ _ (c .before .before .loop .inv .2) (c .before .before .loop .inv .1) (c .before .loop-test .left)
+returns-3 : tie.Need-returns-3 Inv-loop μ-loop
+returns-3 c =
+    let at = c .before .before in
+    c .numeral .ensures
+    ∙ elim (c .before .loop-test .came) [
+      inl e ↦ left-end _ _ _ (at .loop .inv .2) (at .loop .inv .1) (e .left)
+    | inr e ↦ left-stop _ _ _ (at .loop .inv .2) (at .loop .inv .1) (e .0 .taken) (no-digit _ (e .2 .taken))
+    ]
 
 pub read-number-spec : {M : Type 1} → statement M
 read-number-spec =
@@ -82,18 +80,15 @@ read-number-spec =
     shared-slice-read-first
     loop-holds
     shared-slice-read-b
-    numeral-requires
-    returns-2
-    numeral-requires-2
-    returns-3
     cast-more
     mul-more
+    sub-more
     cast-more-2
     add-more
-    returns-4
+    returns-2
     cast-value
     add-i
     loop-less
     loop-again
-    numeral-requires-3
-    returns-5)
+    numeral-requires
+    returns-3)
