@@ -1,4 +1,5 @@
 pub mod Within
+pub mod Tails
 pub mod Vectors
 pub mod Forever
 pub mod Long

@@ -39,7 +39,7 @@ use Rattle.lines.specs.declared.line.Line.{Line}
 use Rattle.lines.specs.declared.line.Line.the-variants.{Reads, Unreadable}
 use Rattle.lines.specs.declared.line.Header.{Header}
 use Rattle.lines.specs.declared.line.Header.the-variants.{Ends, NoHeader}
-use Rattle.lines.specs.Fields.{word, numberOr, saidOf, ticks, plain, fieldOf, numberThen, commaField, endOf, endThen, lastField, tailField, ifBlank, narrowTail, wideTail, tailOf, fieldThen, tailThen, fieldsOf}
+use Rattle.lines.specs.Fields.{word, numberOr, saidOf, meant, fieldOf, numberThen, commaField, endOf, endThen, lastField, tailField, ifBlank, narrowTail, wideTail, tailOf, fieldThen, tailThen, fieldsOf}
 use Rattle.lines.specs.Lines.{letterOf, letterThen, nameThen, fieldsThen, lineOf, headerEndThen, headed, headerOf}
 
 -- each answer's length is at most that
@@ -94,21 +94,18 @@ said-in s = go (numberOf s) (number-in s)
     go (Digits v n) h = h
     go NoNumber h = cond-by (λ (t : Said). SaidIn t (length s)) (begins s word) (Forever (length word)) Unsaid (λ e. begins-in s word e) tt
 
+meant-in : (t : Said) (takes : Takes) (l : ℕ) → SaidIn t l → NumberIn (meant t takes) l
+meant-in (Says v n) takes l h = h
+meant-in (Forever n) Blank l h = tt
+meant-in (Forever n) Plain l h = tt
+meant-in (Forever n) Timeout l h = h
+meant-in Unsaid takes l h = tt
+
 pub field-in : (takes : Takes) (s : List ℕ) → NumberIn (fieldOf takes s) (length s)
 unfolding fieldOf
 field-in Blank s = omega arith
-field-in Plain s = go (saidOf s) (said-in s)
-  where
-    go : (t : Said) → SaidIn t (length s) → NumberIn (plain t) (length s)
-    go (Says v n) h = h
-    go (Forever n) h = tt
-    go Unsaid h = tt
-field-in Timeout s = go (saidOf s) (said-in s)
-  where
-    go : (t : Said) → SaidIn t (length s) → NumberIn (ticks t) (length s)
-    go (Says v n) h = h
-    go (Forever n) h = h
-    go Unsaid h = tt
+field-in Plain s = meant-in (saidOf s) Plain (length s) (said-in s)
+field-in Timeout s = meant-in (saidOf s) Timeout (length s) (said-in s)
 
 pub comma-in : (takes : Takes) (s : List ℕ) → NumberIn (commaField takes s) (length s)
 unfolding commaField

@@ -34,23 +34,23 @@ numberOr NoNumber t = t
 unfoldable pub saidOf : List ℕ → Said
 saidOf s = numberOr (numberOf s) (cond (begins s word) (Forever (length word)) Unsaid)
 
--- the number that it means in a timeout's field
-abbrev pub ticks : Said → Number
-ticks (Says v n) = Digits v n
-ticks (Forever n) = Digits endless n
-ticks Unsaid = NoNumber
+-- the endless wait as a number: 4,294,967,295 where a timeout is taken, and none elsewhere
+abbrev pub endlessIn : Takes → ℕ → Number
+endlessIn Blank n = NoNumber
+endlessIn Plain n = NoNumber
+endlessIn Timeout n = Digits endless n
 
--- and in any other, where the word means none
-abbrev pub plain : Said → Number
-plain (Says v n) = Digits v n
-plain (Forever n) = NoNumber
-plain Unsaid = NoNumber
+-- the number that each case means
+abbrev pub meant : Said → Takes → Number
+meant (Says v n) takes = Digits v n
+meant (Forever n) takes = endlessIn takes n
+meant Unsaid takes = NoNumber
 
 -- the number of a field, by what is taken there
 unfoldable pub fieldOf : Takes → List ℕ → Number
 fieldOf Blank s = Digits 0 0
-fieldOf Plain s = plain (saidOf s)
-fieldOf Timeout s = ticks (saidOf s)
+fieldOf Plain s = meant (saidOf s) Plain
+fieldOf Timeout s = meant (saidOf s) Timeout
 
 abbrev pub numberThen : Number → (ℕ → ℕ → Number) → Number
 numberThen (Digits v n) f = f v n
@@ -79,6 +79,11 @@ abbrev pub tailField : Number → (ℕ → ℕ → Tail) → Tail
 tailField (Digits v n) f = f v n
 tailField NoNumber f = NoTail
 
+abbrev pub zeroIfBlank : Takes → Number
+zeroIfBlank Blank = Digits 0 0
+zeroIfBlank Plain = NoNumber
+zeroIfBlank Timeout = NoNumber
+
 abbrev pub ifBlank : Takes → Tail → Tail
 ifBlank Blank t = t
 ifBlank Plain t = NoTail
@@ -97,6 +102,10 @@ wideTail n s =
 -- what follows the field b: c and the line end, or on a line of six fields c, d and the line end
 unfoldable pub tailOf : Bool → ℕ → List ℕ → Tail
 tailOf wide n s = cond wide (wideTail n s) (narrowTail n s)
+
+-- how the two begin: c and its comma, or nothing, if no d is taken
+unfoldable pub middleOf : Bool → ℕ → List ℕ → Number
+middleOf wide n s = cond wide (commaField (takesAt n 2) s) (zeroIfBlank (takesAt n 3))
 
 abbrev pub fieldThen : Number → (ℕ → ℕ → Fields) → Fields
 fieldThen (Digits v n) f = f v n

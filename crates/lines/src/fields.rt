@@ -1,7 +1,9 @@
 // The fields after a service's name, by what the service takes in each, and the line end.
 // Each function is a definition of specs/Fields, for every value; it rests on text and services.
 ghost use mathlib.Core.Path.{_≡_};
-ghost use Rattle.lines.specs.Fields.{saidOf, ticks, plain, fieldOf, commaField, endOf, lastField, narrowTail, wideTail, tailOf, fieldsOf};
+ghost use mathlib.Core.Bool.{cond};
+ghost use Rattle.services.specs.Takes.{takesAt};
+ghost use Rattle.lines.specs.Fields.{saidOf, endlessIn, meant, fieldOf, commaField, endOf, lastField, middleOf, tailOf, fieldsOf};
 use services::takes::Takes;
 use services::takes::takes_at;
 use text::number::Number;
@@ -53,27 +55,27 @@ fn read_field(s: &[u8]) -> Said
     Said::Says { value, next }
 }
 
-// The number that a timeout's field means.
-fn ticks(said: Said) -> Number
-    ensures { λ r. ⌜ r ≡ ticks said ⌝ }
+// The endless wait as a number, of n bytes: none where no timeout is taken.
+fn endless_in(takes: Takes, n: usize) -> Number
+    ensures { λ r. ⌜ r ≡ endlessIn takes n ⌝ }
 {
-    match said {
-        Said::Says { value, next } => Number::Digits { value, next },
-        Said::Forever { next } => Number::Digits {
+    match takes {
+        Takes::Blank => Number::NoNumber,
+        Takes::Plain => Number::NoNumber,
+        Takes::Timeout => Number::Digits {
             value: 4294967295,
-            next,
+            next: n,
         },
-        Said::Unsaid => Number::NoNumber,
     }
 }
 
-// The number that any other field means: there the word means none.
-fn plain(said: Said) -> Number
-    ensures { λ r. ⌜ r ≡ plain said ⌝ }
+// The number that is meant.
+fn meant(said: Said, takes: Takes) -> Number
+    ensures { λ r. ⌜ r ≡ meant said takes ⌝ }
 {
     match said {
         Said::Says { value, next } => Number::Digits { value, next },
-        Said::Forever { next: _ } => Number::NoNumber,
+        Said::Forever { next } => endless_in(takes, next),
         Said::Unsaid => Number::NoNumber,
     }
 }
@@ -82,11 +84,10 @@ fn plain(said: Said) -> Number
 fn field(s: &[u8], takes: Takes) -> Number
     ensures { λ r. ⌜ r ≡ fieldOf takes (now (s .entry)) ⌝ }
 {
-    match takes {
-        Takes::Blank => Number::Digits { value: 0, next: 0 },
-        Takes::Plain => plain(read_field(s)),
-        Takes::Timeout => ticks(read_field(s)),
-    }
+    let Takes::Blank = takes else {
+        return meant(read_field(s), takes);
+    };
+    Number::Digits { value: 0, next: 0 }
 }
 
 // A field and the comma after it.
@@ -138,39 +139,56 @@ fn last_field(s: &[u8], takes: Takes) -> Number
     }
 }
 
-// The field c and the line end, where the service takes no d.
-fn narrow_tail(s: &[u8], number: u32) -> Tail
-    ensures { λ r. ⌜ r ≡ narrowTail number (now (s .entry)) ⌝ }
+// What stands before the last field: c and its comma, or nothing.
+fn middle(s: &[u8], wide: bool, number: u32) -> Number
+    ensures { λ r. ⌜ r ≡ middleOf wide number (now (s .entry)) ⌝ }
 {
+    if wide {
+        return comma_field(s, takes_at(number, 2));
+    }
     let Takes::Blank = takes_at(number, 3) else {
-        return Tail::NoTail;
+        return Number::NoNumber;
     };
-    let Number::Digits { value: c, next } = last_field(s, takes_at(number, 2)) else {
-        return Tail::NoTail;
-    };
-    Tail::Two { c, d: 0, next }
+    Number::Digits { value: 0, next: 0 }
 }
 
-// The fields c and d, and the line end.
-fn wide_tail(s: &[u8], number: u32) -> Tail
-    ensures { λ r. ⌜ r ≡ wideTail number (now (s .entry)) ⌝ }
+// What is taken in the last field, d or c.
+fn last_takes(wide: bool, number: u32) -> Takes
+    ensures { λ r. ⌜ r ≡ takesAt number (cond wide 3 2) ⌝ }
 {
-    let Number::Digits { value: c, next: i } = comma_field(s, takes_at(number, 2)) else {
-        return Tail::NoTail;
-    };
-    let Number::Digits { value: d, next: j } = last_field(&s[i..], takes_at(number, 3)) else {
-        return Tail::NoTail;
-    };
-    Tail::Two { c, d, next: i + j }
+    if wide {
+        return takes_at(number, 3);
+    }
+    takes_at(number, 2)
 }
 
+// The fields c and d, or c alone, and the line end: one reader of the last field serves both, and so stands where it is called.
 fn read_tail(s: &[u8], wide: bool, number: u32) -> Tail
     ensures { λ r. ⌜ r ≡ tailOf wide number (now (s .entry)) ⌝ }
 {
+    let Number::Digits { value, next } = middle(s, wide, number) else {
+        return Tail::NoTail;
+    };
+    let takes = last_takes(wide, number);
+    let Number::Digits {
+        value: last,
+        next: end,
+    } = last_field(&s[next..], takes)
+    else {
+        return Tail::NoTail;
+    };
     if wide {
-        return wide_tail(s, number);
+        return Tail::Two {
+            c: value,
+            d: last,
+            next: next + end,
+        };
     }
-    narrow_tail(s, number)
+    Tail::Two {
+        c: last,
+        d: 0,
+        next: next + end,
+    }
 }
 
 // The fields a, b, c and d of a service; only wide lines have a d.

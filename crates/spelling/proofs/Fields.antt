@@ -22,7 +22,7 @@ use Rattle.lines.specs.declared.fields.Said.{Said}
 use Rattle.lines.specs.declared.fields.Said.the-variants.{Says, Forever, Unsaid}
 use Rattle.lines.specs.declared.fields.End.{End}
 use Rattle.lines.specs.declared.fields.End.the-variants.{Closes, NoEnd}
-use Rattle.lines.specs.Fields.{word as forever, numberOr, saidOf, ticks, plain, fieldOf, numberThen, commaField, endOf, endThen, lastField}
+use Rattle.lines.specs.Fields.{word as forever, numberOr, saidOf, meant, fieldOf, numberThen, commaField, endOf, endThen, lastField}
 use Rattle.spelling.specs.Statement.{inDigits, Spelled, done, same, word}
 use Rattle.spelling.proofs.Spelled.{NoWord, head-same, tail-same, empty-same, clean, begins-same, begins-rest, digits-same, number-same, Counted, number-counted, Reads, at-drop, not-empty}
 
@@ -52,7 +52,7 @@ unfolding saidOf begins
 word-said s e = rw (word-unread s, e)
 
 abbrev Ticks : List ℕ → List ℕ → Type 0
-Ticks rest t = Reads (Digits endless) (ticks (saidOf t)) rest t
+Ticks rest t = Reads (Digits endless) (meant (saidOf t) Timeout) rest t
 
 word-on : {s t : List ℕ} → Spelled s t → begins s forever ≡ true → Stops (getD s 7 0) → Ticks (drop 7 s) t
 unfolding begins saidOf clean
@@ -62,7 +62,7 @@ word-on (same {s} {t} b p) e stop = go (eqb b 102) refl e
     go : (x : Bool) → eqb b 102 ≡ x → cond x (begins s (bytes "orever")) false ≡ true → Ticks (drop 6 s) (b ∷ t)
     go true q e =
         rw (eqb-true b 102 q)
-        (record { next = 7; reads = ap ticks (word-said t (begins-same (bytes "orever") tt p ∙ e)); follows = begins-rest (bytes "orever") tt p e })
+        (record { next = 7; reads = ap (λ (x : Said). meant x Timeout) (word-said t (begins-same (bytes "orever") tt p ∙ e)); follows = begins-rest (bytes "orever") tt p e })
     go false q e = absurd (false≢true e)
 word-on (word {s} {t} p) e stop =
     record {
@@ -81,16 +81,14 @@ unfolding fieldOf saidOf
 field-on Blank p = λ stop. record { next = 0; reads = refl; follows = p }
 field-on {s} {t} Plain p = go (numberOf s) refl
   where
-    go : (r : Number) → numberOf s ≡ r
-        → FieldOn (plain (numberOr r (cond (begins s forever) (Forever (length forever)) Unsaid))) (plain (numberOr (numberOf t) (cond (begins t forever) (Forever (length forever)) Unsaid))) s t
+    go : (r : Number) → numberOf s ≡ r → FieldOn (meant (numberOr r (cond (begins s forever) (Forever (length forever)) Unsaid)) Plain) (meant (numberOr (numberOf t) (cond (begins t forever) (Forever (length forever)) Unsaid)) Plain) s t
     go (Digits v n) e = λ stop. let x = number-on p v n e stop in record { next = n; reads = rw (x .0); follows = x .1 }
-    go NoNumber e = cond-by (λ (x : Said). FieldOn (plain x) (plain (saidOf t)) s t) (begins s forever) (Forever (length forever)) Unsaid (λ _. tt) tt
+    go NoNumber e = cond-by (λ (x : Said). FieldOn (meant x Plain) (meant (saidOf t) Plain) s t) (begins s forever) (Forever (length forever)) Unsaid (λ _. tt) tt
 field-on {s} {t} Timeout p = go (numberOf s) refl
   where
-    go : (r : Number) → numberOf s ≡ r
-        → FieldOn (ticks (numberOr r (cond (begins s forever) (Forever (length forever)) Unsaid))) (ticks (numberOr (numberOf t) (cond (begins t forever) (Forever (length forever)) Unsaid))) s t
+    go : (r : Number) → numberOf s ≡ r → FieldOn (meant (numberOr r (cond (begins s forever) (Forever (length forever)) Unsaid)) Timeout) (meant (numberOr (numberOf t) (cond (begins t forever) (Forever (length forever)) Unsaid)) Timeout) s t
     go (Digits v n) e = λ stop. let x = number-on p v n e stop in record { next = n; reads = rw (x .0); follows = x .1 }
-    go NoNumber e = cond-by (λ (x : Said). FieldOn (ticks x) (ticks (saidOf t)) s t) (begins s forever) (Forever (length forever)) Unsaid (λ q stop. word-on p q stop) tt
+    go NoNumber e = cond-by (λ (x : Said). FieldOn (meant x Timeout) (meant (saidOf t) Timeout) s t) (begins s forever) (Forever (length forever)) Unsaid (λ q stop. word-on p q stop) tt
 
 -- ---- with the comma after it
 abbrev pub On : Number → Number → List ℕ → List ℕ → Type 0

@@ -66,8 +66,8 @@ returns-3 c =
     let at = c .before .before in
     c .numeral .ensures
     ∙ elim (c .before .loop-test .came) [
-      inl e ↦ left-end _ _ _ (at .loop .inv .2) (at .loop .inv .1) (e .left)
-    | inr e ↦ left-stop _ _ _ (at .loop .inv .2) (at .loop .inv .1) (e .0 .taken) (no-digit _ (e .2 .taken))
+      | inl e ↦ left-end _ _ _ (at .loop .inv .2) (at .loop .inv .1) (e .left)
+      | inr e ↦ left-stop _ _ _ (at .loop .inv .2) (at .loop .inv .1) (e .0 .taken) (no-digit _ (e .2 .taken))
     ]
 
 pub read-number-spec : {M : Type 1} → statement M
