@@ -31,7 +31,7 @@ use Rattle.lines.specs.declared.line.Line.{Line}
 use Rattle.lines.specs.declared.line.Line.the-variants.{Reads, Unreadable}
 use Rattle.lines.specs.declared.line.Header.{Header}
 use Rattle.lines.specs.declared.line.Header.the-variants.{Ends, NoHeader}
-use Rattle.lines.specs.Fields.{fieldOf, numberThen, commaField, endOf, lastField, tailField, ifBlank, narrowTail, wideTail, tailOf, fieldThen, tailThen, fieldsOf}
+use Rattle.lines.specs.Fields.{fieldOf, numberThen, commaField, endOf, lastField, tailField, zeroIfBlank, narrowTail, wideTail, tailOf, fieldThen, tailThen, fieldsOf}
 use Rattle.lines.specs.Lines.{letterOf, letterThen, nameThen, fieldsThen, lineOf, headerEndThen, headed, headerOf}
 use Rattle.services.proofs.Numbers.{both-left, both-right}
 use Rattle.services.proofs.Held.{isLong, begun-long}
@@ -98,7 +98,7 @@ tail-has true n s = first (commaField (takesAt n 2) s) (comma-has (takesAt n 2) 
     first NoNumber g = tt
 tail-has false n s = go (takesAt n 3) (lastField (takesAt n 2) s)
   where
-    go : (d : Takes) (t : Number) → TailHas false (ifBlank d (tailField t (λ c i. Two c 0 i)))
+    go : (d : Takes) (t : Number) → TailHas false (tailField (zeroIfBlank d) (λ z k. tailField t (λ c i. Two c z i)))
     go Blank (Digits c i) = omega arith
     go Blank NoNumber = tt
     go Plain t = tt

@@ -14,7 +14,7 @@ use Rattle.services.specs.declared.takes.Takes.the-variants.{Blank, Plain, Time
 use Rattle.services.specs.Takes.{takesAt}
 use Rattle.lines.specs.declared.fields.Tail.{Tail}
 use Rattle.lines.specs.declared.fields.Tail.the-variants.{Two, NoTail}
-use Rattle.lines.specs.Fields.{commaField, lastField, tailField, zeroIfBlank, ifBlank, narrowTail, wideTail, middleOf, tailOf}
+use Rattle.lines.specs.Fields.{commaField, lastField, tailField, zeroIfBlank, narrowTail, wideTail, middleOf, tailOf}
 use Rattle.lines.proofs.Within.{comma-in}
 
 pub middle-in : (wide : Bool) (n : ℕ) (s : List ℕ) → NumberIn (middleOf wide n s) (length s)
@@ -32,7 +32,7 @@ unfolding middleOf tailOf wideTail narrowTail
 no-middle true n s e = rw e
 no-middle false n s e = go (takesAt n 3) e
   where
-    go : (d : Takes) → zeroIfBlank d ≡ NoNumber → NoTail ≡ ifBlank d (tailField (lastField (takesAt n 2) s) (λ c i. Two c 0 i))
+    go : (d : Takes) → zeroIfBlank d ≡ NoNumber → NoTail ≡ tailField (zeroIfBlank d) (λ z k. tailField (lastField (takesAt n 2) s) (λ c i. Two c z i))
     go Blank e = let z : _≡_ {A = ℕ} 0 1 = cc in absurd (omega arith)
     go Plain e = refl
     go Timeout e = refl
@@ -49,7 +49,7 @@ after-middle false n s v i e = go (takesAt n 3) e
     last NoNumber = refl
 
     go : (d : Takes) → zeroIfBlank d ≡ Digits v i
-        → ifBlank d (tailField (lastField (takesAt n 2) s) (λ c i. Two c 0 i)) ≡ tailField (lastField (takesAt n 2) (drop i s)) (λ w j. Two w 0 (i + j))
+        → tailField (zeroIfBlank d) (λ z k. tailField (lastField (takesAt n 2) s) (λ c i. Two c z i)) ≡ tailField (lastField (takesAt n 2) (drop i s)) (λ w j. Two w 0 (i + j))
     go Blank e = let q : 0 ≡ i = cc in rw (← q) (last (lastField (takesAt n 2) s))
     go Plain e = let z : _≡_ {A = ℕ} 0 1 = cc in absurd (omega arith)
     go Timeout e = let z : _≡_ {A = ℕ} 0 1 = cc in absurd (omega arith)

@@ -39,7 +39,7 @@ use Rattle.lines.specs.declared.line.Line.{Line}
 use Rattle.lines.specs.declared.line.Line.the-variants.{Reads, Unreadable}
 use Rattle.lines.specs.declared.line.Header.{Header}
 use Rattle.lines.specs.declared.line.Header.the-variants.{Ends, NoHeader}
-use Rattle.lines.specs.Fields.{word, numberOr, saidOf, meant, fieldOf, numberThen, commaField, endOf, endThen, lastField, tailField, ifBlank, narrowTail, wideTail, tailOf, fieldThen, tailThen, fieldsOf}
+use Rattle.lines.specs.Fields.{word, numberOr, saidOf, meant, fieldOf, numberThen, commaField, endOf, endThen, lastField, tailField, zeroIfBlank, narrowTail, wideTail, tailOf, fieldThen, tailThen, fieldsOf}
 use Rattle.lines.specs.Lines.{letterOf, letterThen, nameThen, fieldsThen, lineOf, headerEndThen, headed, headerOf}
 
 -- each answer's length is at most that
@@ -141,7 +141,7 @@ narrow-in : (n : ℕ) (s : List ℕ) → TailIn (narrowTail n s) (length s)
 unfolding narrowTail
 narrow-in n s = go (takesAt n 3) (lastField (takesAt n 2) s) (last-in (takesAt n 2) s)
   where
-    go : (d : Takes) (t : Number) → NumberIn t (length s) → TailIn (ifBlank d (tailField t (λ c i. Two c 0 i))) (length s)
+    go : (d : Takes) (t : Number) → NumberIn t (length s) → TailIn (tailField (zeroIfBlank d) (λ z k. tailField t (λ c i. Two c z i))) (length s)
     go Blank (Digits c i) g = g
     go Blank NoNumber g = tt
     go Plain t g = tt

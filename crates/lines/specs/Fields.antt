@@ -84,14 +84,9 @@ zeroIfBlank Blank = Digits 0 0
 zeroIfBlank Plain = NoNumber
 zeroIfBlank Timeout = NoNumber
 
-abbrev pub ifBlank : Takes → Tail → Tail
-ifBlank Blank t = t
-ifBlank Plain t = NoTail
-ifBlank Timeout t = NoTail
-
 -- a service that takes a d has no room on a line of five fields, where d stands for 0
 unfoldable pub narrowTail : ℕ → List ℕ → Tail
-narrowTail n s = ifBlank (takesAt n 3) (tailField (lastField (takesAt n 2) s) (λ c i. Two c 0 i))
+narrowTail n s = tailField (zeroIfBlank (takesAt n 3)) (λ d k. tailField (lastField (takesAt n 2) s) (λ c i. Two c d i))
 
 unfoldable pub wideTail : ℕ → List ℕ → Tail
 wideTail n s =

@@ -31,7 +31,7 @@ use Rattle.lines.specs.declared.line.Header.{Header}
 use Rattle.lines.specs.declared.line.Header.the-variants.{Ends, NoHeader}
 use Rattle.model.specs.Services.{service}
 use Rattle.services.specs.Names.{nameOf}
-use Rattle.lines.specs.Fields.{fieldOf, numberThen, commaField, endOf, endThen, lastField, tailField, ifBlank, narrowTail, wideTail, tailOf, fieldThen, tailThen, fieldsOf}
+use Rattle.lines.specs.Fields.{fieldOf, numberThen, commaField, endOf, endThen, lastField, tailField, zeroIfBlank, narrowTail, wideTail, tailOf, fieldThen, tailThen, fieldsOf}
 use Rattle.lines.specs.Lines.{letterOf, letterThen, nameThen, fieldsThen, lineOf, headerEndThen, headed, headerOf}
 use Rattle.lines.proofs.Long.{extra, NameHas, name-has, NumberHas, comma-has}
 
@@ -101,7 +101,7 @@ tail-ends true n s = first (commaField (takesAt n 2) s) (comma-has (takesAt n 2)
     first NoNumber h = tt
 tail-ends false n s = go (takesAt n 3) (lastField (takesAt n 2) s) (last-ends (takesAt n 2) s)
   where
-    go : (d : Takes) (t : Number) → NumberEnds t (length s) → TailEnds false (ifBlank d (tailField t (λ c i. Two c 0 i))) (length s)
+    go : (d : Takes) (t : Number) → NumberEnds t (length s) → TailEnds false (tailField (zeroIfBlank d) (λ z k. tailField t (λ c i. Two c z i))) (length s)
     go Blank (Digits c i) g = g
     go Blank NoNumber g = tt
     go Plain t g = tt

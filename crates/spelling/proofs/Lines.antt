@@ -35,7 +35,7 @@ use Rattle.lines.specs.declared.line.Line.{Line}
 use Rattle.lines.specs.declared.line.Line.the-variants.{Reads as Call, Unreadable}
 use Rattle.lines.specs.declared.line.Header.{Header}
 use Rattle.lines.specs.declared.line.Header.the-variants.{Ends, NoHeader}
-use Rattle.lines.specs.Fields.{commaField, endOf, lastField, tailField, ifBlank, narrowTail, wideTail, tailOf, fieldThen, tailThen, fieldsOf}
+use Rattle.lines.specs.Fields.{commaField, endOf, lastField, tailField, zeroIfBlank, narrowTail, wideTail, tailOf, fieldThen, tailThen, fieldsOf}
 use Rattle.lines.specs.Lines.{letterOf, letterThen, nameThen, fieldsThen, lineOf, headerEndThen, headed, headerOf}
 use Rattle.spelling.specs.Statement.{Spelled}
 use Rattle.spelling.proofs.Spelled.{clean, begins-same, begins-rest, Reads, further}
@@ -52,7 +52,7 @@ module _ {s t : List ℕ} (n : ℕ) (p : Spelled s t) where
   narrow-on = go (takesAt n 3) (lastField (takesAt n 2) s) (last-on (takesAt n 2) p)
     where
       go : (d : Takes) (x : Number) → On x (lastField (takesAt n 2) t) s t
-          → TailOn (ifBlank d (tailField x (λ c i. Two c 0 i))) (ifBlank d (tailField (lastField (takesAt n 2) t) (λ c i. Two c 0 i))) s t
+          → TailOn (tailField (zeroIfBlank d) (λ z k. tailField x (λ c i. Two c z i))) (tailField (zeroIfBlank d) (λ z k. tailField (lastField (takesAt n 2) t) (λ c i. Two c z i))) s t
       go Blank (Digits c i) x = record { next = x .next; reads = simp (x .reads); follows = x .follows }
       go Blank NoNumber x = tt
       go Plain y x = tt
