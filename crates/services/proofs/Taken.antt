@@ -8,11 +8,11 @@ use native.Mathlib.Omega.{arith}
 use native.Mathlib.Decide.{decLt}
 use lib.Dec.{T as So, leb, leb→le}
 use lib.ListN.{length, getD, List·getD-eq-default}
-use Rattle.model.specs.Services.{Field, Service, services, service}
+use Rattle.model.specs.Services.{Field, services, service}
 use Rattle.model.proofs.Words.{table}
 use Rattle.services.specs.declared.takes.Takes.{Takes}
 use Rattle.services.specs.declared.takes.Takes.the-variants.{Blank, Plain, Timeout}
-use Rattle.services.specs.Takes.{takesOf, takesIn, takesAt}
+use Rattle.services.specs.Takes.{takesIn, takesAt}
 use Rattle.services.proofs.Numbers.{Rest, has, none-is, below, at-number}
 use Rattle.services.proofs.Table.{table-size}
 
@@ -86,20 +86,21 @@ others-blank ks i t n r = go (decLt n 34)
     go (no h) = past-table n i (omega arith)
 
 -- ---- the fields that take a timeout, each by its service's number and its place
-abbrev ifTimeout : Takes → ℕ × ℕ → List (ℕ × ℕ) → List (ℕ × ℕ)
-ifTimeout Blank x xs = xs
-ifTimeout Plain x xs = xs
-ifTimeout Timeout x xs = x ∷ xs
+abbrev ifTimeout : Takes → ℕ × ℕ → List (ℕ × ℕ)
+ifTimeout Blank x = []
+ifTimeout Plain x = []
+ifTimeout Timeout x = x ∷ []
 
-pub timeoutsIn : List Field → ℕ → ℕ → List (ℕ × ℕ)
-timeoutsIn [] n i = []
-timeoutsIn (x ∷ xs) n i = ifTimeout (takesOf x) (n, i) (timeoutsIn xs n (i + 1))
+-- those among the first i of the service n, and of all services below n
+pub timeoutsOf : ℕ → ℕ → List (ℕ × ℕ)
+timeoutsOf n zero = []
+timeoutsOf n (suc i) = timeoutsOf n i ++ ifTimeout (takesAt n i) (n, i)
 
-pub timeouts : List Service → ℕ → List (ℕ × ℕ)
-timeouts [] n = []
-timeouts (x ∷ xs) n = timeoutsIn (x .fields) n 0 ++ timeouts xs (n + 1)
+pub timeoutsBelow : ℕ → List (ℕ × ℕ)
+timeoutsBelow zero = []
+timeoutsBelow (suc n) = timeoutsBelow n ++ timeoutsOf n 4
 
 -- tn_task_sleep a, tn_sem_acquire b, tn_event_wait d
-pub these-take-timeouts : timeouts services 1 ≡ (9, 0) ∷ (21, 1) ∷ (30, 3) ∷ []
-unfolding timeouts timeoutsIn table
+pub these-take-timeouts : timeoutsBelow 34 ≡ (9, 0) ∷ (21, 1) ∷ (30, 3) ∷ []
+unfolding timeoutsBelow timeoutsOf takesAt takesIn table
 these-take-timeouts = refl
