@@ -76,19 +76,25 @@ abbrev FieldOn : Number → Number → List ℕ → List ℕ → Type 0
 FieldOn (Digits v n) r s t = Stops (getD s n 0) → Reads (Digits v) r (drop n s) t
 FieldOn NoNumber r s t = Unit
 
+said-on : {s t : List ℕ} (takes : Takes) → Spelled s t → FieldOn (meant (saidOf s) takes) (meant (saidOf t) takes) s t
+unfolding saidOf
+said-on {s} {t} takes p = go (numberOf s) refl
+  where
+    worded : (takes : Takes) → begins s forever ≡ true → FieldOn (meant (Forever (length forever)) takes) (meant (saidOf t) takes) s t
+    worded Blank q = tt
+    worded Plain q = tt
+    worded Timeout q = λ stop. word-on p q stop
+
+    go : (r : Number) → numberOf s ≡ r
+        → FieldOn (meant (numberOr r (cond (begins s forever) (Forever (length forever)) Unsaid)) takes) (meant (numberOr (numberOf t) (cond (begins t forever) (Forever (length forever)) Unsaid)) takes) s t
+    go (Digits v n) e = λ stop. let x = number-on p v n e stop in record { next = n; reads = rw (x .0); follows = x .1 }
+    go NoNumber e = cond-by (λ (x : Said). FieldOn (meant x takes) (meant (saidOf t) takes) s t) (begins s forever) (Forever (length forever)) Unsaid (worded takes) tt
+
 field-on : {s t : List ℕ} (takes : Takes) → Spelled s t → FieldOn (fieldOf takes s) (fieldOf takes t) s t
-unfolding fieldOf saidOf
+unfolding fieldOf
 field-on Blank p = λ stop. record { next = 0; reads = refl; follows = p }
-field-on {s} {t} Plain p = go (numberOf s) refl
-  where
-    go : (r : Number) → numberOf s ≡ r → FieldOn (meant (numberOr r (cond (begins s forever) (Forever (length forever)) Unsaid)) Plain) (meant (numberOr (numberOf t) (cond (begins t forever) (Forever (length forever)) Unsaid)) Plain) s t
-    go (Digits v n) e = λ stop. let x = number-on p v n e stop in record { next = n; reads = rw (x .0); follows = x .1 }
-    go NoNumber e = cond-by (λ (x : Said). FieldOn (meant x Plain) (meant (saidOf t) Plain) s t) (begins s forever) (Forever (length forever)) Unsaid (λ _. tt) tt
-field-on {s} {t} Timeout p = go (numberOf s) refl
-  where
-    go : (r : Number) → numberOf s ≡ r → FieldOn (meant (numberOr r (cond (begins s forever) (Forever (length forever)) Unsaid)) Timeout) (meant (numberOr (numberOf t) (cond (begins t forever) (Forever (length forever)) Unsaid)) Timeout) s t
-    go (Digits v n) e = λ stop. let x = number-on p v n e stop in record { next = n; reads = rw (x .0); follows = x .1 }
-    go NoNumber e = cond-by (λ (x : Said). FieldOn (meant x Timeout) (meant (saidOf t) Timeout) s t) (begins s forever) (Forever (length forever)) Unsaid (λ q stop. word-on p q stop) tt
+field-on Plain p = said-on Plain p
+field-on Timeout p = said-on Timeout p
 
 -- ---- with the comma after it
 abbrev pub On : Number → Number → List ℕ → List ℕ → Type 0

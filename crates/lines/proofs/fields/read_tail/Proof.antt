@@ -8,7 +8,8 @@ use lib.ListN.{length, drop}
 use Rattle.text.specs.declared.number.Number.the-variants.{Digits}
 use Rattle.text.proofs.Places.{part-of}
 use Rattle.services.specs.Takes.{takesAt}
-use Rattle.lines.specs.Fields.{lastField, middleOf}
+use Rattle.lines.specs.declared.fields.Tail.the-variants.{Two}
+use Rattle.lines.specs.Fields.{lastField, middleOf, tailOf}
 use Rattle.text.proofs.Reading.{got}
 use Rattle.lines.proofs.Within.{after, by-table, last-in}
 use Rattle.lines.proofs.Tails.{middle-in, no-middle, after-middle}
@@ -31,6 +32,14 @@ e2 c =
     let a = v .before .before .before .before .args in
     let i = v .value .given .0 .1 .0 in
     got (by-table lastField (drop i (a .s .now)) (c .before .before .before .before .last-takes .ensures) (part-of (lastField _) (a .s .now) i (c .before .before .last-field .ensures))) (c .last .given .1)
+
+e3 : (c : tie.After-last) → let v = c .before .before .before .before .before .before in let a = v .before .before .before .before .args in
+    let n = v .value .given .0 .1 .0 + c .last .given .0 .1 .0 in
+    tailOf (a .wide) (a .number) (a .s .now) ≡ cond (a .wide) (Two (v .value .given .0 .0) (c .last .given .0 .0) n) (Two (c .last .given .0 .0) 0 n)
+e3 c =
+    let v = c .before .before .before .before .before .before in
+    let a = v .before .before .before .before .args in
+    rw (after-middle (a .wide) (a .number) (a .s .now) (v .value .given .0 .0) (v .value .given .0 .1 .0) (e1 v), e2 c)
 
 -- the sum of the two lengths is that of a part of the bytes
 fits : (c : tie.After-last) → let v = c .before .before .before .before .before .before in v .value .given .0 .1 .0 + c .last .given .0 .1 .0 < 2 ^ 64
@@ -62,21 +71,13 @@ add-t16 : tie.Need-add-t16
 add-t16 c = omega (arith, fits (c .before .before))
 
 returns-3 : tie.Need-returns-3
-returns-3 c =
-    let x = c .before .before in
-    let v = x .before .before .before .before .before .before in
-    let a = v .before .before .before .before .args in
-    rw (after-middle (a .wide) (a .number) (a .s .now) (v .value .given .0 .0) (v .value .given .0 .1 .0) (e1 v), e2 x, c .if1 .taken)
+returns-3 c = rw (e3 (c .before .before), c .if1 .taken)
 
 add-t12 : tie.Need-add-t12
 add-t12 c = omega (arith, fits (c .before .before))
 
 returns-4 : tie.Need-returns-4
-returns-4 c =
-    let x = c .before .before in
-    let v = x .before .before .before .before .before .before in
-    let a = v .before .before .before .before .args in
-    rw (after-middle (a .wide) (a .number) (a .s .now) (v .value .given .0 .0) (v .value .given .0 .1 .0) (e1 v), e2 x, c .if1 .left)
+returns-4 c = rw (e3 (c .before .before), c .if1 .left)
 
 pub read-tail-spec : {M : Type 1} → statement M
 read-tail-spec =
