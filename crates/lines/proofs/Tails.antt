@@ -1,6 +1,6 @@
 -- What follows the field b, read as its code reads it: what stands before the last field, then the last field and the line end.
 -- It rests on the definitions of both kinds of tail.
-use Prim.Native.Nat.{ℕ, _+_, _≤_}
+use Prim.Native.Nat.{ℕ, _+_}
 use mathlib.Core.Path.{_≡_, refl, ap}
 use mathlib.Core.Bool.{Bool, true, false, cond}
 use mathlib.Core.List.{List}
@@ -12,9 +12,8 @@ use Rattle.text.proofs.Reading.{NumberIn}
 use Rattle.services.specs.declared.takes.Takes.{Takes}
 use Rattle.services.specs.declared.takes.Takes.the-variants.{Blank, Plain, Timeout}
 use Rattle.services.specs.Takes.{takesAt}
-use Rattle.lines.specs.declared.fields.Tail.{Tail}
 use Rattle.lines.specs.declared.fields.Tail.the-variants.{Two, NoTail}
-use Rattle.lines.specs.Fields.{commaField, lastField, tailField, zeroIfBlank, narrowTail, wideTail, middleOf, tailOf}
+use Rattle.lines.specs.Fields.{lastField, tailField, zeroIfBlank, narrowTail, wideTail, middleOf, tailOf}
 use Rattle.lines.proofs.Within.{comma-in}
 
 pub middle-in : (wide : Bool) (n : ℕ) (s : List ℕ) → NumberIn (middleOf wide n s) (length s)

@@ -1,13 +1,13 @@
 -- What the services take, place by place: the same at every number but a few, and nothing past the fourth field or past the table.
 -- antt computes the tests over all numbers; which fields take a timeout is told in full.
 use Prim.Native.Nat.{ℕ, zero, suc, _+_, _<_, _≤_}
-use mathlib.Core.Path.{_≡_, refl, sym, ap, _∙_}
-use mathlib.Core.Bool.{Bool, true, false, cond, _||_}
+use mathlib.Core.Path.{_≡_, refl}
+use mathlib.Core.Bool.{Bool, true, false, _||_}
 use mathlib.Core.List.{List, [], _∷_, _++_}
 use native.Mathlib.Omega.{arith}
 use native.Mathlib.Decide.{decLt}
 use lib.Dec.{T as So, leb, leb→le}
-use lib.ListN.{length, getD, List·getD-eq-default}
+use lib.ListN.{length, List·getD-eq-default}
 use Rattle.model.specs.Services.{Field, services, service}
 use Rattle.model.proofs.Words.{table}
 use Rattle.services.specs.declared.takes.Takes.{Takes}

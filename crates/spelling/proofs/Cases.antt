@@ -6,13 +6,13 @@ use mathlib.Core.List.{List, [], _∷_, _++_}
 use native.Mathlib.Omega.{arith}
 use Rattle.text.specs.Bytes.{bytes}
 use Rattle.model.specs.declared.Context.the-variants.{T}
-use Rattle.model.specs.declared.Call.the-variants.{TaskCreate, TaskSleep, SemAcquire, OnFlag}
+use Rattle.model.specs.declared.Call.the-variants.{TaskSleep, SemAcquire, OnFlag}
 use Rattle.model.specs.declared.FlagService.the-variants.{Wait}
 use Rattle.lines.specs.Fields.{endOf}
 use Rattle.lines.specs.Lines.{headed, headerOf}
 use Rattle.lines.proofs.Vectors.{reader}
-use Rattle.walk.specs.Script.{Script, done as over, next, scriptIn, scriptOf, faultOf}
-use Rattle.spelling.specs.Statement.{Spelled, done, same, word, SameCalls}
+use Rattle.walk.specs.Script.{done as over, next, scriptIn, scriptOf, faultOf}
+use Rattle.spelling.specs.Statement.{Spelled, done, same, word}
 use Rattle.spelling.proofs.Same.{same-calls}
 
 alike : {s t : List ℕ} (u : List ℕ) → Spelled s t → Spelled (u ++ s) (u ++ t)

@@ -1,11 +1,11 @@
 -- A field that reads in the one spelling reads in the other, to the same number, and what follows is spelled alike: by its comma or its line end.
 -- It rests on the laws of two spellings, and on what ends a field being neither a digit nor the first byte of the word.
-use Prim.Native.Nat.{ℕ, zero, suc, _+_}
+use Prim.Native.Nat.{ℕ, _+_}
 use mathlib.Core.Path.{_≡_, refl, sym, ap, _∙_}
 use mathlib.Core.Bool.{Bool, true, false, cond, false≢true}
 use mathlib.Core.List.{List, [], _∷_, _++_}
 use native.Mathlib.Omega.{arith}
-use lib.Dec.{leb, eqb}
+use lib.Dec.{eqb}
 use lib.ListN.{length, getD, drop}
 use lib.Seq.{drop-drop}
 use borrow.Author.Tests.{eq-eqb, eqb-true}
@@ -19,12 +19,12 @@ use Rattle.model.specs.Task.{endless}
 use Rattle.services.specs.declared.takes.Takes.{Takes}
 use Rattle.services.specs.declared.takes.Takes.the-variants.{Blank, Plain, Timeout}
 use Rattle.lines.specs.declared.fields.Said.{Said}
-use Rattle.lines.specs.declared.fields.Said.the-variants.{Says, Forever, Unsaid}
+use Rattle.lines.specs.declared.fields.Said.the-variants.{Forever, Unsaid}
 use Rattle.lines.specs.declared.fields.End.{End}
 use Rattle.lines.specs.declared.fields.End.the-variants.{Closes, NoEnd}
 use Rattle.lines.specs.Fields.{word as forever, numberOr, saidOf, meant, fieldOf, numberThen, commaField, endOf, endThen, lastField}
 use Rattle.spelling.specs.Statement.{inDigits, Spelled, done, same, word}
-use Rattle.spelling.proofs.Spelled.{NoWord, head-same, tail-same, empty-same, clean, begins-same, begins-rest, digits-same, number-same, Counted, number-counted, Reads, at-drop, not-empty}
+use Rattle.spelling.proofs.Spelled.{NoWord, head-same, tail-same, empty-same, clean, begins-same, begins-rest, digits-same, number-same, number-counted, Reads, at-drop, not-empty}
 
 -- ---- what may end a field
 abbrev pub Stops : ℕ → Type 0

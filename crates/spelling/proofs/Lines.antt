@@ -1,7 +1,7 @@
 -- A line or a header that reads in the one spelling reads in the other, to the same call, and what follows is spelled alike.
 -- It rests on the laws of its fields, and on no service's name having an f or a 4, which antt computes.
 use Prim.Native.Nat.{ℕ, _+_}
-use mathlib.Core.Path.{_≡_, refl, sym, ap, _∙_}
+use mathlib.Core.Path.{_≡_, refl, _∙_}
 use mathlib.Core.Bool.{Bool, true, false, cond, _&&_}
 use mathlib.Core.List.{List, [], _∷_}
 use lib.Dec.{T as So}

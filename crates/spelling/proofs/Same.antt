@@ -3,12 +3,11 @@
 use Prim.Native.Nat.{ℕ, zero, suc, _+_, _<_, _≤_}
 use mathlib.Core.Path.{_≡_, refl, sym, ap, _∙_}
 use mathlib.Core.Bool.{Bool}
-use mathlib.Core.List.{List, [], _∷_, _++_}
+use mathlib.Core.List.{List, _∷_}
 use native.Mathlib.Omega.{arith}
 use native.Mathlib.Decide.{decLt}
-use lib.ListN.{length, drop, length-drop, length-append}
+use lib.ListN.{length, drop, length-drop}
 use borrow.Author.Tests.{le-ltb}
-use Rattle.text.specs.Bytes.{bytes}
 use Rattle.model.specs.declared.Context.{Context}
 use Rattle.model.specs.declared.Call.{Call}
 use Rattle.lines.specs.declared.line.Line.{Line}
@@ -17,14 +16,12 @@ use Rattle.lines.specs.declared.line.Header.{Header}
 use Rattle.lines.specs.declared.line.Header.the-variants.{Ends, NoHeader}
 use Rattle.lines.specs.Lines.{lineOf, headerOf}
 use Rattle.lines.proofs.Within.{LineIn, line-in}
-use Rattle.walk.specs.Script.{Script, done as over, fault, next, scriptIn, headerThen, scriptOf, faultOf}
-use Rattle.walk.specs.Rows.{textOf}
-use Rattle.walk.proofs.Scripts.{script-drop, script-end, script-fault, script-next}
+use Rattle.walk.specs.Script.{next, scriptIn, headerThen, scriptOf, faultOf}
+use Rattle.walk.proofs.Scripts.{script-drop, script-fault, script-next}
 use Rattle.runner.specs.declared.Ran.{Ran}
 use Rattle.runner.specs.declared.Ran.the-variants.{Wrote, TooLong, Unreadable, Short}
-use Rattle.runner.specs.Outcome.{judged, ranOf, bufferOf}
+use Rattle.runner.specs.Outcome.{ranOf, bufferOf}
 use Rattle.spelling.specs.Statement.{Spelled, done, same, word, SameCalls, SameAnswer}
-use Rattle.spelling.proofs.Spelled.{Reads}
 use Rattle.spelling.proofs.Lines.{LineOn, line-on, HeaderOn, header-on}
 
 -- the digits are the longer

@@ -1,6 +1,6 @@
 -- Two spellings byte by byte: the same bytes begin them, and the same digits, up to where a word stands in the one and digits in the other.
 -- It rests on the word's first byte being f (102) and its digits' first being 4 (52).
-use Prim.Native.Nat.{ℕ, zero, suc, _+_}
+use Prim.Native.Nat.{ℕ, suc, _+_}
 use mathlib.Core.Path.{_≡_, refl, sym, ap, _∙_}
 use mathlib.Core.Bool.{Bool, true, false, cond, not, _&&_, false≢true}
 use mathlib.Core.List.{List, [], _∷_, _++_}
