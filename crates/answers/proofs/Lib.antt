@@ -1,2 +1,3 @@
 mod Widths
 mod Placing
+pub mod Kept

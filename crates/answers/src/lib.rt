@@ -1,4 +1,4 @@
-// The text of an answer's rows. A code is kept as one number from 0 to 13, so that a row is its call's number and two small ones;
+// The text of an answer's rows. A code is a number from 0 to 13, a row without its call's number is kept as one byte;
 // a row's length is known before it is written, and a row without room is not. Rests on text.
 ghost use mathlib.Core.Path.{_≡_};
 ghost use Prim.Native.Nat.{_+_, _≤_};
@@ -6,14 +6,14 @@ ghost use lib.Dec.{leb};
 ghost use lib.ListN.{length};
 ghost use lib.Seq.{sets};
 ghost use Rattle.text.specs.Bytes.{put, placeAfter};
-ghost use Rattle.answers.specs.Slots.{slotOf, slotText, keptText};
+ghost use Rattle.answers.specs.Slots.{slotOf, slotText, keptText, keptOf, slotIn, runsIn};
 use model::Code;
 use text::decimals::put_decimal;
 use text::decimals::width;
 use text::words::has_room;
 use text::words::put_text;
 
-// ---- a kept code: the paper's number plus 12
+// ---- a code as a number: the paper's plus 12
 pub fn slot(code: Code) -> u8
     ensures { λ r. ⌜ r ≡ slotOf code ⌝ }
 {
@@ -83,4 +83,38 @@ pub fn put_row(buf: &mut [u8], at: usize, n: u32, v: u8, running: u8) -> usize
     let d = put_text(buf, c, b",");
     let e = put_decimal(buf, d, running as u32);
     put_text(buf, e, b"\r\n")
+}
+
+// ---- what is kept of a row
+// One byte: a refusal's code alone, since it leaves who runs; any other's code and task.
+pub fn keep(v: u8, running: u8) -> u8
+    ensures { λ r. ⌜ r ≡ keptOf v running ⌝ }
+{
+    if v < 12 {
+        return v;
+    }
+    if v == 12 {
+        return 32 + running % 32;
+    }
+    64 + running % 32
+}
+
+// The code that was kept.
+pub fn slot_kept(k: u8) -> u8
+    ensures { λ r. ⌜ r ≡ slotIn k ⌝ }
+{
+    if k < 32 {
+        return k;
+    }
+    11 + k / 32
+}
+
+// The task that ran then, where `before` ran before.
+pub fn runs_kept(before: u8, k: u8) -> u8
+    ensures { λ r. ⌜ r ≡ runsIn before k ⌝ }
+{
+    if k < 32 {
+        return before;
+    }
+    k % 32
 }

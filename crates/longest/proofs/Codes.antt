@@ -1,10 +1,9 @@
 -- The code and the running task that a call answers in a sound state have at most two bytes each as text, and three in all while nobody runs.
--- It rests on codes having one digit (ways), on who runs in a sound state, and on refusals changing nothing (soundness).
-use mathlib.Core.Path.{_≡_, refl, sym, ap}
+-- It rests on codes having one digit (ways), and on who runs after a call, refused or not (runner).
+use mathlib.Core.Path.{_≡_, refl, sym}
 use mathlib.Core.Bool.{Bool, true, false, false≢true}
-use Prim.Native.Nat.{suc, _+_, _≤_, _<_}
+use Prim.Native.Nat.{suc, _+_, _≤_}
 use native.Mathlib.Omega.{arith}
-use native.Mathlib.Decide.{decLe}
 use lib.Dec.{T as So, ltb→lt}
 use lib.IntN.{ℤ, pos, negsuc}
 use lib.ListN.{length}
@@ -19,9 +18,8 @@ use Rattle.model.specs.Call.{step}
 use Rattle.model.specs.Sound.{Sound}
 use Rattle.ways.proofs.Done.{oneDigit}
 use Rattle.ways.proofs.Ways.{step-digit}
-use Rattle.soundness.proofs.Soundness.{sound-stays-sound, refused-is-unchanged}
-use Rattle.soundness.proofs.Running.{runner}
 use Rattle.walk.specs.Rows.{signed}
+use Rattle.runner.proofs.Steady.{step-still, step-runs}
 
 -- ---- codes
 signed-most : (z : ℤ) → So (oneDigit z) → length (signed z) ≤ 2
@@ -33,31 +31,18 @@ signed-one : (z : ℤ) → So (oneDigit z) → isNegative z ≡ false → length
 signed-one (pos n) h e = omega (arith, width-one n (omega (arith, ltb→lt n 10 h)))
 signed-one (negsuc n) h e = absurd (false≢true (sym e))
 
--- ---- who runs
-runs-most : (s : State) → Sound s → length (decimal (running s)) ≤ 2
-runs-most s k = width-most 1 (running s) (go (decLe 1 (running s)))
-  where
-    go : Dec (1 ≤ running s) → running s < 100
-    go (yes h) = omega (arith, runner s k h .top)
-    go (no h) = omega arith
-
 -- ---- an answer
 module _ (s : State) (x : Context) (c : Call) where
   pub step-code : length (signed (number (step s x c .code))) ≤ 2
   step-code = signed-most (number (step s x c .code)) (step-digit s x c)
 
-  pub step-runs : Sound s → length (decimal (step s x c .running)) ≤ 2
-  unfolding step
-  step-runs k = runs-most (step s x c .state) (sound-stays-sound s x c k)
-
-  step-still : step s x c .state ≡ s → step s x c .running ≡ running s
-  unfolding step
-  step-still e = ap running e
+  pub step-task : Sound s → length (decimal (step s x c .running)) ≤ 2
+  step-task k = width-most 1 (step s x c .running) (omega (arith, step-runs s x c k))
 
   -- while nobody runs, a call that is refused leaves it so, and any other has a code of one byte
   pub step-idle : Sound s → running s ≡ 0 → length (signed (number (step s x c .code))) + length (decimal (step s x c .running)) ≤ 3
   step-idle k idle = go (isRefusal (step s x c .code)) refl
     where
       go : (b : Bool) → isRefusal (step s x c .code) ≡ b → length (signed (number (step s x c .code))) + length (decimal (step s x c .running)) ≤ 3
-      go true e = omega (arith, step-code, width-one (step s x c .running) (omega (arith, step-still (refused-is-unchanged s x c e))))
-      go false e = omega (arith, signed-one (number (step s x c .code)) (step-digit s x c) e, step-runs k)
+      go true e = omega (arith, step-code, width-one (step s x c .running) (omega (arith, step-still s x c e)))
+      go false e = omega (arith, signed-one (number (step s x c .code)) (step-digit s x c) e, step-task k)

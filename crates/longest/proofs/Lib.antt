@@ -1,4 +1,3 @@
-pub mod Ended
 pub mod Codes
 pub mod Rows
 pub mod Longest

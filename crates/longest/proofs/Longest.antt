@@ -1,5 +1,5 @@
 -- The theorems of specs/Statement: a file holds few calls, so that its answer is short, and no buffer of that length is too short for it.
--- They rest on Ended and the laws of lines for the lines, and on Rows for the text.
+-- They rest on the laws of lines for the lines, and on Rows for the text.
 use mathlib.Core.Path.{_≡_, refl}
 use mathlib.Core.Bool.{Bool, true, false, cond}
 use mathlib.Core.List.{List, [], _∷_}
@@ -30,7 +30,7 @@ use Rattle.walk.specs.Script.{next, lineThen, scriptIn, headerThen, scriptOf, f
 use Rattle.walk.specs.Rows.{rowsBy, rowsOf, rowsText, textOf}
 use Rattle.runner.specs.Outcome.{judged, ranOf}
 use Rattle.longest.specs.Statement.{FewCalls, FewWideCalls, ShortAnswer, RoomEnough, NeverShort}
-use Rattle.longest.proofs.Ended.{LineEnds, line-ends, header-ends}
+use Rattle.lines.proofs.Ended.{LineEnds, line-ends, header-ends}
 use Rattle.longest.proofs.Rows.{digits-grow, digits-all, all-most}
 
 -- ---- few calls

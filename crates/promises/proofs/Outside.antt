@@ -52,6 +52,9 @@ of-answers =
     of answers.slot.signature (λ M. answers.slot.clauses) (λ M. answers.slot.Met.met) (λ w κs a g h o p. plain w result) ∷
     of answers.row_width.signature (λ M. answers.row_width.clauses) (λ M. answers.row_width.Met.met) (λ w κs a g h o p. plain w bounded) ∷
     of answers.put_row.signature (λ M. answers.put_row.clauses) (λ M. answers.put_row.Met.met) (λ w κs a g h o p. plain w both) ∷
+    of answers.keep.signature (λ M. answers.keep.clauses) (λ M. answers.keep.Met.met) (λ w κs a g h o p. plain w result) ∷
+    of answers.slot_kept.signature (λ M. answers.slot_kept.clauses) (λ M. answers.slot_kept.Met.met) (λ w κs a g h o p. plain w result) ∷
+    of answers.runs_kept.signature (λ M. answers.runs_kept.clauses) (λ M. answers.runs_kept.Met.met) (λ w κs a g h o p. plain w result) ∷
     []
 
 pub of-runner : List Promise

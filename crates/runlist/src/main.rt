@@ -1,7 +1,9 @@
 // A list of calls on standard input, its answer on standard output; on a refusal the editor's number alone and CRLF.
-// It reads one byte more than a file may have, so as to see the difference. Rests on the runner.
+// It reads one byte more than a file may have, so as to see the difference. Rests on the runner and the printer of numbers.
 use libc::STDIN_FILENO;
 use libc::STDOUT_FILENO;
+use text::decimals::put_decimal;
+use text::words::put_text;
 
 fn main() {
     let mut file = [0u8; 65537];
@@ -9,9 +11,10 @@ fn main() {
     let mut answer = [0u8; 65536];
     let r = runner::run_list(&file[..n], &mut answer);
     if r < 0 {
-        io::write_all(STDOUT_FILENO, b"-");
-        io::print_decimal(STDOUT_FILENO, (0 - r) as u64);
-        io::write_all(STDOUT_FILENO, b"\r\n");
+        let digits = put_text(&mut answer, 0, b"-");
+        let after = put_decimal(&mut answer, digits, (0 - r) as u32);
+        let end = put_text(&mut answer, after, b"\r\n");
+        io::write_all(STDOUT_FILENO, &answer[..end]);
         return;
     }
     let k = r as usize;

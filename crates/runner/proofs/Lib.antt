@@ -1,4 +1,5 @@
 pub mod Scripts
+pub mod Steady
 pub mod Playing
 pub mod Writing
 pub mod Judging

@@ -4,50 +4,47 @@ use mathlib.Core.Path.{_≡_, refl, ap, sym, _∙_}
 use mathlib.Core.List.{List, [], _∷_, _++_}
 use native.Mathlib.Numerals.{add-one}
 use native.Mathlib.Omega.{arith}
-use lib.ListN.{length, getD, take, drop, length-append, drop-of-length-le}
-use lib.Seq.{sets, length-sets, drop-cons, getD-take, length-take-le}
+use lib.ListN.{length, getD, drop, length-append, drop-of-length-le}
+use lib.Seq.{sets, length-sets, drop-cons}
 use Rattle.text.specs.Bytes.{bytes, put, placeAfter}
 use Rattle.text.proofs.Stores.{sets-append, put-room, after-room}
-use Rattle.answers.specs.Slots.{keptText}
+use Rattle.answers.specs.Slots.{keptText, slotIn, runsIn}
 use Rattle.runner.specs.Kept.{keptRows}
 
--- the rows from place i on, of the first n that are kept
-abbrev pub left : ℕ → List ℕ → List ℕ → ℕ → List ℕ
-left n codes runs i = keptRows (i + 1) (drop i (take n codes)) (drop i (take n runs))
+-- the rows from place i on, where `run` ran before them
+abbrev pub left : List ℕ → ℕ → ℕ → List ℕ
+left ks run i = keptRows (i + 1) run (drop i ks)
 
-one-more : (n i : ℕ) (xs : List ℕ) → i < n → n ≤ length xs → drop i (take n xs) ≡ getD xs i 0 ∷ drop (i + 1) (take n xs)
-one-more n i xs h g = rw (add-one i, drop-cons (take n xs) i 0 (omega (arith, length-take-le n xs g)), getD-take n xs i 0 h)
-
-module _ (n : ℕ) (codes runs : List ℕ) (p : n ≤ length codes) (q : n ≤ length runs) (i : ℕ) (h : i < n) where
-  pub left-next : left n codes runs i ≡ keptText (i + 1) (getD codes i 0) (getD runs i 0) ++ left n codes runs (i + 1)
+module _ (ks : List ℕ) (run i : ℕ) (h : i < length ks) (run′ v : ℕ) (er : run′ ≡ runsIn run (getD ks i 0)) (ev : v ≡ slotIn (getD ks i 0)) where
+  left-next : left ks run i ≡ keptText (i + 1) v run′ ++ left ks run′ (i + 1)
   unfolding keptRows
-  left-next = rw (one-more n i codes h p, one-more n i runs h q)
+  left-next = rw (er, ev, add-one i, drop-cons ks i 0 h)
 
   -- there is room for the next row
-  fits : (b : List ℕ) (out : ℕ) → out + length (left n codes runs i) ≤ length b → out + length (keptText (i + 1) (getD codes i 0) (getD runs i 0)) ≤ length b
-  fits b out r = omega (arith, ap length left-next, length-append (keptText (i + 1) (getD codes i 0) (getD runs i 0)) (left n codes runs (i + 1)))
+  fits : (b : List ℕ) (out : ℕ) → out + length (left ks run i) ≤ length b → out + length (keptText (i + 1) v run′) ≤ length b
+  fits b out r = omega (arith, ap length left-next, length-append (keptText (i + 1) v run′) (left ks run′ (i + 1)))
 
   -- and it is written
-  module _ (b b′ : List ℕ) (out out′ : ℕ) (r : out + length (left n codes runs i) ≤ length b) (e : out′ ≡ placeAfter b out (keptText (i + 1) (getD codes i 0) (getD runs i 0))) (f : b′ ≡ put b out (keptText (i + 1) (getD codes i 0) (getD runs i 0))) where
-    place : out′ ≡ out + length (keptText (i + 1) (getD codes i 0) (getD runs i 0))
-    place = e ∙ after-room b out (keptText (i + 1) (getD codes i 0) (getD runs i 0)) (fits b out r)
+  module _ (b b′ : List ℕ) (out out′ : ℕ) (r : out + length (left ks run i) ≤ length b) (e : out′ ≡ placeAfter b out (keptText (i + 1) v run′)) (f : b′ ≡ put b out (keptText (i + 1) v run′)) where
+    place : out′ ≡ out + length (keptText (i + 1) v run′)
+    place = e ∙ after-room b out (keptText (i + 1) v run′) (fits b out r)
 
-    stores : b′ ≡ sets b out (keptText (i + 1) (getD codes i 0) (getD runs i 0))
-    stores = f ∙ put-room b out (keptText (i + 1) (getD codes i 0) (getD runs i 0)) (fits b out r)
+    stores : b′ ≡ sets b out (keptText (i + 1) v run′)
+    stores = f ∙ put-room b out (keptText (i + 1) v run′) (fits b out r)
 
-    pub room : out′ + length (left n codes runs (i + 1)) ≤ length b′
+    pub room : out′ + length (left ks run′ (i + 1)) ≤ length b′
     room =
-        omega (arith, ap length left-next, length-append (keptText (i + 1) (getD codes i 0) (getD runs i 0)) (left n codes runs (i + 1)), place, ap length stores, length-sets b out (keptText (i + 1) (getD codes i 0) (getD runs i 0)))
+        omega (arith, ap length left-next, length-append (keptText (i + 1) v run′) (left ks run′ (i + 1)), place, ap length stores, length-sets b out (keptText (i + 1) v run′))
 
-    pub goes : (w : List ℕ) → sets b out (left n codes runs i) ≡ w → sets b′ out′ (left n codes runs (i + 1)) ≡ w
+    pub goes : (w : List ℕ) → sets b out (left ks run i) ≡ w → sets b′ out′ (left ks run′ (i + 1)) ≡ w
     goes w g =
-        let k : sets b out (keptText (i + 1) (getD codes i 0) (getD runs i 0) ++ left n codes runs (i + 1)) ≡ w = rw left-next at g in
-        rw (stores, place) (sym (sets-append b out (keptText (i + 1) (getD codes i 0) (getD runs i 0)) (left n codes runs (i + 1))) ∙ k)
+        let k : sets b out (keptText (i + 1) v run′ ++ left ks run′ (i + 1)) ≡ w = rw left-next at g in
+        rw (stores, place) (sym (sets-append b out (keptText (i + 1) v run′) (left ks run′ (i + 1))) ∙ k)
 
 -- nothing is left
-pub over : (n : ℕ) (codes runs b : List ℕ) (out i : ℕ) (w : List ℕ) → n ≤ length codes → n ≤ i → sets b out (left n codes runs i) ≡ w → b ≡ w
+pub over : (ks b : List ℕ) (run out i : ℕ) (w : List ℕ) → length ks ≤ i → sets b out (left ks run i) ≡ w → b ≡ w
 unfolding keptRows
-over n codes runs b out i w p h g = rw (drop-of-length-le (take n codes) {i = i} (omega (arith, length-take-le n codes p))) at g
+over ks b run out i w h g = rw (drop-of-length-le ks {i = i} h) at g
 
 -- the header first
 pub headed : (b b₁ w rows : List ℕ) (out : ℕ) → 16 + length rows ≤ length b → out ≡ placeAfter b 0 (bytes "n,code,running\r\n") → b₁ ≡ put b 0 (bytes "n,code,running\r\n") → w ≡ sets b₁ out rows

@@ -1,17 +1,20 @@
-// The runner: a file of calls and an answer buffer in, one number out. Every call is worked once, its code and running task are kept,
-// and the answer is written only when all lines were read and all of it fits. Rests on the line reader and the step.
+// The runner: a file of calls and an answer buffer in, one number out. Every call is worked once, its code and running task are kept
+// in one byte, and the answer is written only when all lines were read and all of it fits. Rests on the line reader and the step.
 ghost use mathlib.Core.Path.{_≡_};
-ghost use Prim.Native.Nat.{_+_, _≤_};
+ghost use Prim.Native.Nat.{_+_, _<_, _≤_};
 ghost use mathlib.Core.List.{_++_};
-ghost use lib.ListN.{length, take};
+ghost use lib.ListN.{length};
 ghost use lib.Seq.{sets};
 ghost use Rattle.text.specs.Bytes.{bytes};
 ghost use Rattle.walk.specs.Script.{scriptIn};
 ghost use Rattle.runner.specs.Kept.{keptRows, Plays};
 ghost use Rattle.runner.specs.Outcome.{ranOf, signedOf, bufferOf, Small};
+use answers::keep;
 use answers::put_row;
 use answers::row_width;
+use answers::runs_kept;
 use answers::slot;
+use answers::slot_kept;
 use lines::line::Header;
 use lines::line::Line;
 use lines::line::read_header;
@@ -26,23 +29,22 @@ pub enum Ran {
     Short,
 }
 
-// The answers of a list, call by call: each code, without its sign's cost, as a number from 0 to 13, and each running task.
+// One byte for each call that a file can hold.
+pub type Kept = [u8; 3639];
+
+// What playing a list leaves beside the kept rows: the first line that can't be read, or 0; how many calls; the answer's length.
 pub struct Played {
     pub fault: usize,
     pub count: usize,
     pub total: usize,
-    pub codes: [u8; 4096],
-    pub runs: [u8; 4096],
 }
 
 // ---- the calls, each worked once
 // The lines after the header, which has h bytes and says whether they are wide: their answers, or the first line that can't be read.
-fn play(file: &[u8], wide: bool, h: usize) -> Played
-    requires { ⌜ (17 ≤ h) × (h ≤ length (now file)) × (length (now file) ≤ 65536) ⌝ }
-    ensures { λ r. ⌜ Plays r (scriptIn wide h (now (file .entry)) 2) ⌝ }
+fn play(file: &[u8], wide: bool, h: usize, kept: &mut Kept) -> Played
+    requires { ⌜ (h < length (now file) → 18 ≤ h) × (h ≤ length (now file)) × (length (now file) ≤ 65536) × (length (now kept) ≡ 3639) ⌝ }
+    ensures { λ r. ⌜ Plays r (now (kept .exit)) (scriptIn wide h (now (file .entry)) 2) ⌝ }
 {
-    let mut codes = [0u8; 4096];
-    let mut runs = [0u8; 4096];
     let mut at = h;
     let mut n: usize = 0;
     let mut total: usize = 16;
@@ -63,8 +65,6 @@ fn play(file: &[u8], wide: bool, h: usize) -> Played
                 fault: n + 2,
                 count: n,
                 total,
-                codes,
-                runs,
             };
         };
         let answer = step::step_in(
@@ -81,8 +81,7 @@ fn play(file: &[u8], wide: bool, h: usize) -> Played
         let running = answer.running;
         run = running;
         let v = slot(code);
-        codes[n] = v;
-        runs[n] = running;
+        kept[n] = keep(v, running);
         n = n + 1;
         total = total + row_width(n as u32, v, running);
         at = at + next;
@@ -91,22 +90,23 @@ fn play(file: &[u8], wide: bool, h: usize) -> Played
         fault: 0,
         count: n,
         total,
-        codes,
-        runs,
     }
 }
 
 // ---- the answer
-// The header and the first n kept rows, where there is room for them.
-fn write(answer: &mut [u8], n: usize, codes: [u8; 4096], runs: [u8; 4096])
-    requires { ⌜ (n ≤ 4096) × (16 + length (keptRows 1 (take n codes) (take n runs)) ≤ length (now answer)) ⌝ }
-    ensures { λ _. ⌜ now (answer .exit) ≡ sets (now (answer .entry)) 0 (bytes "n,code,running\r\n" ++ keptRows 1 (take n codes) (take n runs)) ⌝ }
+// The header and the kept rows, where there is room for them; before the first call nobody runs.
+fn write(answer: &mut [u8], kept: &[u8])
+    requires { ⌜ (length (now kept) ≤ 3639) × (16 + length (keptRows 1 0 (now kept)) ≤ length (now answer)) ⌝ }
+    ensures { λ _. ⌜ now (answer .exit) ≡ sets (now (answer .entry)) 0 (bytes "n,code,running\r\n" ++ keptRows 1 0 (now (kept .entry))) ⌝ }
 {
     let mut out = put_text(answer, 0, b"n,code,running\r\n");
+    let mut run: u8 = 0;
     let mut i: usize = 0;
-    while i < n {
-        out = put_row(answer, out, i as u32 + 1, codes[i], runs[i]);
+    while i < kept.len() {
+        let k = kept[i];
+        run = runs_kept(run, k);
         i += 1;
+        out = put_row(answer, out, i as u32, slot_kept(k), run);
     }
 }
 
@@ -120,7 +120,8 @@ fn run(file: &[u8], answer: &mut [u8]) -> Ran
     let Header::Ends { wide, next } = read_header(file) else {
         return Ran::Unreadable(1);
     };
-    let p = play(file, wide, next);
+    let mut kept = [0u8; 3639];
+    let p = play(file, wide, next, &mut kept);
     let fault = p.fault;
     let count = p.count;
     let total = p.total;
@@ -130,9 +131,7 @@ fn run(file: &[u8], answer: &mut [u8]) -> Ran
     if answer.len() < total {
         return Ran::Short;
     }
-    let codes = p.codes;
-    let runs = p.runs;
-    write(answer, count, codes, runs);
+    write(answer, &kept[..count]);
     Ran::Wrote(total)
 }
 

@@ -4,3 +4,4 @@ pub mod Begins
 pub mod Digits
 pub mod Stores
 pub mod RoundTrip
+pub mod Printed

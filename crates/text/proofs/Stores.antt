@@ -61,6 +61,14 @@ module _ (buf : List ℕ) (at : ℕ) (t : List ℕ) where
   unfolding placeAfter
   after-none {r} e h = rw (← e, not-true r h)
 
+  after-most : placeAfter buf at t ≤ at + length t
+  unfolding placeAfter
+  after-most = go (leb (at + length t) (length buf))
+    where
+      go : (b : Bool) → cond b (at + length t) at ≤ at + length t
+      go true = omega arith
+      go false = omega arith
+
   -- the buffer's length stays
   pub length-put : length (put buf at t) ≡ length buf
   unfolding put
@@ -69,6 +77,10 @@ module _ (buf : List ℕ) (at : ℕ) (t : List ℕ) where
       go : (b : Bool) → length (cond b (sets buf at t) buf) ≡ length buf
       go true = length-sets buf at t
       go false = refl
+
+-- the place after, with room or without, is not far
+pub after-near : (buf : List ℕ) (at : ℕ) (t : List ℕ) (r : ℕ) → r ≡ placeAfter buf at t → r ≤ at + length t
+after-near buf at t r e = omega (arith, e, after-most buf at t)
 
 -- where both have room, one text after another is the two as one
 module _ (buf : List ℕ) (at : ℕ) (xs ys : List ℕ) (h : at + length (xs ++ ys) ≤ length buf) where

@@ -25,7 +25,8 @@ use Rattle.lines.specs.declared.line.Line.{Line}
 use Rattle.lines.specs.declared.line.Line.the-variants.{Reads, Unreadable}
 use Rattle.lines.specs.Lines.{lineOf}
 use Rattle.lines.proofs.Within.{LineIn, line-in}
-use Rattle.lines.proofs.Long.{extra, LineHas, line-has}
+use Rattle.lines.proofs.Long.{extra}
+use Rattle.lines.proofs.Ended.{Before, LineEnds, line-ends}
 use Rattle.walk.specs.declared.Turn.{Turn}
 use Rattle.walk.specs.declared.Turn.the-variants.{Plays, Faults}
 use Rattle.walk.specs.Script.{Script, done, fault, next, scriptIn, faultOf}
@@ -46,8 +47,8 @@ answerRow r = record { code = r .code; running = r .running }
 -- n lines of a list whose header has h bytes were walked; the next begins at `at`, the state is s, and `run` runs
 pub record Walk (wide : Bool) (file : List ℕ) (h : ℕ) (rows : List Row) (at n run : ℕ) (s : State) : Type 0 where
   pub inside : at ≤ length file
-  -- each line took 17 bytes at least, and the header too
-  pub behind : n * 17 + 17 ≤ at
+  -- where a line follows, each line before it took 18 bytes at least, and the header too
+  pub behind : at < length file → n * 18 + 18 ≤ at
   pub many : length rows ≡ n
   pub runs : run ≡ bestFrom 30 1 (s .levels)
   pub faults : faultOf (rest wide file at n) ≡ faultOf (whole wide file h)
@@ -67,7 +68,7 @@ idle : 0 ≡ bestFrom 30 1 (queuesOf 31 (replicate 744 0))
 unfolding bestFrom row queuesFrom rowIn
 idle = refl
 
-pub starts : (wide : Bool) (file : List ℕ) (h : ℕ) → 17 ≤ h → h ≤ length file
+pub starts : (wide : Bool) (file : List ℕ) (h : ℕ) → (h < length file → 18 ≤ h) → h ≤ length file
     → Walk wide file h [] h 0 0 (stateIn (replicate 300 0) (replicate 125 0) (replicate 744 0) (replicate 504 0) (replicate 76 0))
 starts wide file h p q =
     let d : scriptIn wide 0 (drop h file) 2 ≡ scriptIn wide h file 2 = sym (script-drop wide h file 2) in
@@ -100,7 +101,7 @@ module _ (wide : Bool) (file : List ℕ) (h : ℕ) (rows : List Row) (at n run :
     unfolding faultOf rowsBy
     onward x c m g =
         let a = stepFrom run s x c in
-        let long : 17 + extra wide ≤ m = rw g at (line-has wide (drop at file)) in
+        let ends : Before m (length (drop at file)) (18 + extra wide) = rw g at (line-ends wide (drop at file)) in
         let k : (0 < m) × (m ≤ length (drop at file)) = rw g at (line-in wide (drop at file)) in
         let o : n + 2 + 1 ≡ n + 1 + 2 = omega arith in
         let d : rest wide file at n ≡ next x c (rest wide file (at + m) (n + 1)) = script-next wide file at (n + 2) x c m more (k .0) g ∙ rw o in
@@ -110,7 +111,7 @@ module _ (wide : Bool) (file : List ℕ) (h : ℕ) (rows : List Row) (at n run :
           omega arith,
           record {
             inside = omega (arith, length-drop at file, k .1);
-            behind = omega (arith, w .behind, long);
+            behind = λ h. omega (arith, w .behind more, ends (omega (arith, length-drop at file)));
             many = simp length-append (omega (arith, w .many));
             runs = runs-on a run s x c refl;
             faults = (rw d at (w .faults));

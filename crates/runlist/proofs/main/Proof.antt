@@ -1,4 +1,4 @@
--- `runlist::main` is safe: what the runner says it wrote lies within the buffer, and the opposite of a refusal's number is printed.
+-- `runlist::main` is safe: what the runner says it wrote lies within the buffer, and so does a refusal's number with its sign and line end.
 -- Rests on Signed.
 use mathlib.Core.Path.{sym}
 use Prim.Native.Nat.{_≤_}
@@ -9,7 +9,8 @@ use mir.Syntax.{w64}
 use mir.Val.{toZ, ofZ}
 use lib.Seq.{length-take-le}
 use borrow.Author.Needs.{needs}
-use Rattle.runlist.proofs.Signed.{opposite-fits, opposite-casts, bytes-fit, bytes-cast}
+use Rattle.text.proofs.Stores.{after-near}
+use Rattle.runlist.proofs.Signed.{opposite-fits, opposite-casts, opposite-few, bytes-fit, bytes-cast}
 use Rattle.runlist.proofs.main.Statement.{statement}
 use Rattle.runlist.proofs.main.Tie as tie
 
@@ -31,26 +32,52 @@ slice-aggregate-run-list-2 c = search needs
 run-list-requires : tie.Need-run-list-requires
 run-list-requires c κs = search needs
 
+slice-aggregate-put-text : tie.Need-slice-aggregate-put-text
+slice-aggregate-put-text c = search needs
+
+slice-aggregate-put-text-2 : tie.Need-slice-aggregate-put-text-2
+slice-aggregate-put-text-2 c = search needs
+
+put-text-requires : tie.Need-put-text-requires
+put-text-requires c κs = search needs
+
+slice-aggregate-put-decimal : tie.Need-slice-aggregate-put-decimal
+slice-aggregate-put-decimal c = search needs
+
+sub-put-decimal : tie.Need-sub-put-decimal
+sub-put-decimal c = opposite-fits _ _ (omega (arith, c .before .before .before .before .before .before .before .run-list .kept .1 .0)) _ (c .before .before .before .before .before .before .before .run-list .ensures .0) (c .before .before .before .before .before .if1 .taken)
+
+cast-put-decimal : tie.Need-cast-put-decimal
+cast-put-decimal c = opposite-casts _ _ (omega (arith, c .before .before .before .before .before .before .before .run-list .kept .1 .0)) _ (c .before .before .before .before .before .before .before .run-list .ensures .0) (c .before .before .before .before .before .if1 .taken)
+
+put-decimal-requires : tie.Need-put-decimal-requires
+put-decimal-requires c κs = search needs
+
+slice-aggregate-put-text-3 : tie.Need-slice-aggregate-put-text-3
+slice-aggregate-put-text-3 c = search needs
+
+slice-aggregate-put-text-4 : tie.Need-slice-aggregate-put-text-4
+slice-aggregate-put-text-4 c = search needs
+
+put-text-requires-2 : tie.Need-put-text-requires-2
+put-text-requires-2 c κs = search needs
+
+-- the sign, ten digits at most, and the line end
+few : (c : tie.After-answer8) → c .before .put-text2 .result ≤ 13
+few c =
+    let d = c .before .before .before .before .before in
+    let t = d .before .before .before in
+    let r = t .before .before .before .before .before .run-list in
+    omega (arith, after-near _ _ _ _ (c .before .put-text2 .ensures .0), after-near _ _ _ _ (d .put-decimal .ensures .0), after-near _ _ _ _ (t .put-text .ensures .0), opposite-few _ _ (omega (arith, r .kept .1 .0)) _ (r .ensures .0) (t .before .before .before .if1 .taken))
+
+array-share-prefix-answer : tie.Need-array-share-prefix-answer
+array-share-prefix-answer c = omega (arith, few c)
+
 slice-aggregate-write-all : tie.Need-slice-aggregate-write-all
-slice-aggregate-write-all c = search needs
+slice-aggregate-write-all c = sym (length-take-le _ _ (omega (arith, few (c .before))))
 
 write-all-requires : tie.Need-write-all-requires
 write-all-requires c κs = search needs
-
-sub-print-decimal : tie.Need-sub-print-decimal
-sub-print-decimal c = opposite-fits _ _ (omega (arith, c .before .before .before .before .run-list .kept .1 .0)) _ (c .before .before .before .before .run-list .ensures .0) (c .before .before .if1 .taken)
-
-cast-print-decimal : tie.Need-cast-print-decimal
-cast-print-decimal c = opposite-casts _ _ (omega arith) _ (c .before .before .before .before .run-list .ensures .0) (c .before .before .if1 .taken)
-
-print-decimal-requires : tie.Need-print-decimal-requires
-print-decimal-requires c κs = search needs
-
-slice-aggregate-write-all-2 : tie.Need-slice-aggregate-write-all-2
-slice-aggregate-write-all-2 c = search needs
-
-write-all-requires-2 : tie.Need-write-all-requires-2
-write-all-requires-2 c κs = search needs
 
 returns : tie.Need-returns
 returns c = search needs
@@ -62,14 +89,14 @@ cast-k c = bytes-cast _ _ (omega arith) _ (c .before .before .run-list .ensures 
 fits : (c : tie.Else1) → natAbs (toZ w64 (ofZ w64 (c .before .before .run-list .result))) ≤ length (c .before .before .run-list .last .1 .0)
 fits c = let r = c .before .before .run-list in omega (arith, bytes-fit _ _ (omega arith) _ (r .ensures .0) (c .if1 .left), r .kept .1 .0)
 
-array-share-prefix-answer : tie.Need-array-share-prefix-answer
-array-share-prefix-answer c = fits c
+array-share-prefix-answer-2 : tie.Need-array-share-prefix-answer-2
+array-share-prefix-answer-2 c = fits c
 
-slice-aggregate-write-all-3 : tie.Need-slice-aggregate-write-all-3
-slice-aggregate-write-all-3 c = sym (length-take-le _ _ (fits (c .before)))
+slice-aggregate-write-all-2 : tie.Need-slice-aggregate-write-all-2
+slice-aggregate-write-all-2 c = sym (length-take-le _ _ (fits (c .before)))
 
-write-all-requires-3 : tie.Need-write-all-requires-3
-write-all-requires-3 c κs = search needs
+write-all-requires-2 : tie.Need-write-all-requires-2
+write-all-requires-2 c κs = search needs
 
 returns-2 : tie.Need-returns-2
 returns-2 c = search needs
@@ -84,16 +111,22 @@ main-spec =
     slice-aggregate-run-list
     slice-aggregate-run-list-2
     run-list-requires
+    slice-aggregate-put-text
+    slice-aggregate-put-text-2
+    put-text-requires
+    slice-aggregate-put-decimal
+    sub-put-decimal
+    cast-put-decimal
+    put-decimal-requires
+    slice-aggregate-put-text-3
+    slice-aggregate-put-text-4
+    put-text-requires-2
+    array-share-prefix-answer
     slice-aggregate-write-all
     write-all-requires
-    sub-print-decimal
-    cast-print-decimal
-    print-decimal-requires
-    slice-aggregate-write-all-2
-    write-all-requires-2
     returns
     cast-k
-    array-share-prefix-answer
-    slice-aggregate-write-all-3
-    write-all-requires-3
+    array-share-prefix-answer-2
+    slice-aggregate-write-all-2
+    write-all-requires-2
     returns-2)

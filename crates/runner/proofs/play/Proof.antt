@@ -13,15 +13,15 @@ use Rattle.runner.proofs.play.Statement.{statement}
 use Rattle.runner.proofs.play.Tie as tie
 
 abbrev Inv-loop : tie.InvT-loop
-Inv-loop file wide h codes₀ runs₀ at₀ n₀ total₀ bytes₀ words₀ levels₀ waits₀ numbers₀ run₀ codes runs at n total bytes words levels waits numbers run =
-    Left wide file h codes runs at n total run (stateIn bytes words levels waits numbers)
+Inv-loop file wide h kept₀ at₀ n₀ total₀ bytes₀ words₀ levels₀ waits₀ numbers₀ run₀ kept at n total bytes words levels waits numbers run =
+    Left wide file h kept at n total run (stateIn bytes words levels waits numbers)
 
 abbrev μ-loop : tie.MeasureT-loop
-μ-loop file wide h codes₀ runs₀ at₀ n₀ total₀ bytes₀ words₀ levels₀ waits₀ numbers₀ run₀ codes runs at n total bytes words levels waits numbers run =
+μ-loop file wide h kept₀ at₀ n₀ total₀ bytes₀ words₀ levels₀ waits₀ numbers₀ run₀ kept at n total bytes words levels waits numbers run =
     length file - at
 
 loop-holds : tie.Need-loop-holds Inv-loop μ-loop
-loop-holds c = law.starts _ _ _ _ _ (c .before .pre .0) (c .before .pre .1) refl refl
+loop-holds c = law.starts _ _ _ _ (c .before .pre .0) (c .before .pre .1) (c .before .pre .3)
 
 sub-read-line : tie.Need-sub-read-line Inv-loop μ-loop
 sub-read-line c = search needs
@@ -41,11 +41,11 @@ enum-known-context c = search needs
 enum-told : tie.Need-enum-told Inv-loop μ-loop
 enum-told c = search needs
 
-add-t28 : tie.Need-add-t28 Inv-loop μ-loop
-add-t28 c = record { fits = omega (arith, law.room _ _ _ _ _ _ _ _ _ _ (c .before .before .before .before .before .before .before .pre .2) (c .before .before .before .before .before .loop .inv)) }
+add-t27 : tie.Need-add-t27 Inv-loop μ-loop
+add-t27 c = record { fits = omega (arith, law.few _ _ _ _ _ _ _ _ _ (c .before .before .before .before .before .before .before .pre .2) (c .before .before .before .before .before .loop .inv) (c .before .before .before .before .loop-test .taken)) }
 
 returns : tie.Need-returns Inv-loop μ-loop
-returns c = law.stops _ _ _ _ _ _ _ _ _ _ (c .before .before .before .before .before .before .before .pre .2) (c .before .before .before .before .before .loop .inv) (c .before .before .before .before .loop-test .taken) (sym (part-of (lineOf (c .before .before .before .before .before .before .before .args .wide)) (c .before .before .before .before .before .before .before .args .file .now) (c .before .before .before .before .before .loop .at) (c .before .before .read-line .ensures)) ∙ c .enum-told .given .1) _ refl
+returns c = law.stops _ _ _ _ _ _ _ _ _ (c .before .before .before .before .before .before .before .pre .2) (c .before .before .before .before .before .loop .inv) (c .before .before .before .before .loop-test .taken) (sym (part-of (lineOf (c .before .before .before .before .before .before .before .args .wide)) (c .before .before .before .before .before .before .before .args .file .now) (c .before .before .before .before .before .loop .at) (c .before .before .read-line .ensures)) ∙ c .enum-told .given .1) _ refl
 
 step-in-requires : tie.Need-step-in-requires Inv-loop μ-loop
 step-in-requires c κs = search needs
@@ -53,35 +53,35 @@ step-in-requires c κs = search needs
 slot-requires : tie.Need-slot-requires Inv-loop μ-loop
 slot-requires c κs = search needs
 
-array-write-codes : tie.Need-array-write-codes Inv-loop μ-loop
-array-write-codes c = law.room _ _ _ _ _ _ _ _ _ _ (c .before .before .before .before .before .before .before .before .before .before .before .before .before .before .before .pre .2) (c .before .before .before .before .before .before .before .before .before .before .before .before .before .loop .inv)
+keep-requires : tie.Need-keep-requires Inv-loop μ-loop
+keep-requires c κs = search needs
 
-array-write-runs : tie.Need-array-write-runs Inv-loop μ-loop
-array-write-runs c = law.room _ _ _ _ _ _ _ _ _ _ (c .before .before .before .before .before .before .before .before .before .before .before .before .before .before .before .pre .2) (c .before .before .before .before .before .before .before .before .before .before .before .before .before .loop .inv)
+element-write-kept : tie.Need-element-write-kept Inv-loop μ-loop
+element-write-kept c = law.room _ _ _ _ _ _ _ _ _ (c .before .before .before .before .before .before .before .before .before .before .before .before .before .before .before .before .pre .2) (c .before .before .before .before .before .before .before .before .before .before .before .before .before .before .loop .inv) (c .before .before .before .before .before .before .before .before .before .before .before .before .before .loop-test .taken) _ _ _ (sym (part-of (lineOf (c .before .before .before .before .before .before .before .before .before .before .before .before .before .before .before .before .args .wide)) (c .before .before .before .before .before .before .before .before .before .before .before .before .before .before .before .before .args .file .now) (c .before .before .before .before .before .before .before .before .before .before .before .before .before .before .loop .at) (c .before .before .before .before .before .before .before .before .before .before .before .read-line .ensures)) ∙ c .before .before .before .before .before .before .before .before .before .context .given .1)
 
 add-n : tie.Need-add-n Inv-loop μ-loop
-add-n c = record { fits = omega (arith, law.room _ _ _ _ _ _ _ _ _ _ (c .before .before .before .before .before .before .before .before .before .before .before .before .before .before .before .pre .2) (c .before .before .before .before .before .before .before .before .before .before .before .before .before .loop .inv)) }
+add-n c = record { fits = omega (arith, law.room _ _ _ _ _ _ _ _ _ (c .before .before .before .before .before .before .before .before .before .before .before .before .before .before .before .before .pre .2) (c .before .before .before .before .before .before .before .before .before .before .before .before .before .before .loop .inv) (c .before .before .before .before .before .before .before .before .before .before .before .before .before .loop-test .taken) _ _ _ (sym (part-of (lineOf (c .before .before .before .before .before .before .before .before .before .before .before .before .before .before .before .before .args .wide)) (c .before .before .before .before .before .before .before .before .before .before .before .before .before .before .before .before .args .file .now) (c .before .before .before .before .before .before .before .before .before .before .before .before .before .before .loop .at) (c .before .before .before .before .before .before .before .before .before .before .before .read-line .ensures)) ∙ c .before .before .before .before .before .before .before .before .before .context .given .1)) }
 
 cast-row-width : tie.Need-cast-row-width Inv-loop μ-loop
-cast-row-width c = record { fits = omega (arith, law.room _ _ _ _ _ _ _ _ _ _ (c .before .before .before .before .before .before .before .before .before .before .before .before .before .before .before .pre .2) (c .before .before .before .before .before .before .before .before .before .before .before .before .before .loop .inv)) }
+cast-row-width c = record { fits = omega (arith, law.room _ _ _ _ _ _ _ _ _ (c .before .before .before .before .before .before .before .before .before .before .before .before .before .before .before .before .pre .2) (c .before .before .before .before .before .before .before .before .before .before .before .before .before .before .loop .inv) (c .before .before .before .before .before .before .before .before .before .before .before .before .before .loop-test .taken) _ _ _ (sym (part-of (lineOf (c .before .before .before .before .before .before .before .before .before .before .before .before .before .before .before .before .args .wide)) (c .before .before .before .before .before .before .before .before .before .before .before .before .before .before .before .before .args .file .now) (c .before .before .before .before .before .before .before .before .before .before .before .before .before .before .loop .at) (c .before .before .before .before .before .before .before .before .before .before .before .read-line .ensures)) ∙ c .before .before .before .before .before .before .before .before .before .context .given .1)) }
 
 row-width-requires : tie.Need-row-width-requires Inv-loop μ-loop
 row-width-requires c κs = search needs
 
 add-total : tie.Need-add-total Inv-loop μ-loop
-add-total c = record { fits = omega (arith, c .row-width .ensures .1, c .before .before .before .before .before .before .before .before .before .before .before .before .before .before .loop .inv .short, law.room _ _ _ _ _ _ _ _ _ _ (c .before .before .before .before .before .before .before .before .before .before .before .before .before .before .before .before .pre .2) (c .before .before .before .before .before .before .before .before .before .before .before .before .before .before .loop .inv)) }
+add-total c = record { fits = omega (arith, c .row-width .ensures .1, c .before .before .before .before .before .before .before .before .before .before .before .before .before .before .before .loop .inv .short, law.room _ _ _ _ _ _ _ _ _ (c .before .before .before .before .before .before .before .before .before .before .before .before .before .before .before .before .before .pre .2) (c .before .before .before .before .before .before .before .before .before .before .before .before .before .before .before .loop .inv) (c .before .before .before .before .before .before .before .before .before .before .before .before .before .before .loop-test .taken) _ _ _ (sym (part-of (lineOf (c .before .before .before .before .before .before .before .before .before .before .before .before .before .before .before .before .before .args .wide)) (c .before .before .before .before .before .before .before .before .before .before .before .before .before .before .before .before .before .args .file .now) (c .before .before .before .before .before .before .before .before .before .before .before .before .before .before .before .loop .at) (c .before .before .before .before .before .before .before .before .before .before .before .before .read-line .ensures)) ∙ c .before .before .before .before .before .before .before .before .before .before .context .given .1)) }
 
 add-at : tie.Need-add-at Inv-loop μ-loop
-add-at c = record { fits = omega (arith, c .before .before .before .before .before .before .before .before .before .before .before .before .before .before .before .before .pre .2, law.within _ _ _ _ _ _ _ _ _ _ (c .before .before .before .before .before .before .before .before .before .before .before .before .before .before .before .before .pre .2) (c .before .before .before .before .before .before .before .before .before .before .before .before .before .before .loop .inv) (c .before .before .before .before .before .before .before .before .before .before .before .before .before .loop-test .taken) _ _ _ (sym (part-of (lineOf (c .before .before .before .before .before .before .before .before .before .before .before .before .before .before .before .before .args .wide)) (c .before .before .before .before .before .before .before .before .before .before .before .before .before .before .before .before .args .file .now) (c .before .before .before .before .before .before .before .before .before .before .before .before .before .before .loop .at) (c .before .before .before .before .before .before .before .before .before .before .before .read-line .ensures)) ∙ c .before .before .before .before .before .before .before .before .before .context .given .1) .1) }
+add-at c = record { fits = omega (arith, c .before .before .before .before .before .before .before .before .before .before .before .before .before .before .before .before .before .pre .2, law.within _ _ _ _ _ _ _ _ _ (c .before .before .before .before .before .before .before .before .before .before .before .before .before .before .before .before .before .pre .2) (c .before .before .before .before .before .before .before .before .before .before .before .before .before .before .before .loop .inv) (c .before .before .before .before .before .before .before .before .before .before .before .before .before .before .loop-test .taken) _ _ _ (sym (part-of (lineOf (c .before .before .before .before .before .before .before .before .before .before .before .before .before .before .before .before .before .args .wide)) (c .before .before .before .before .before .before .before .before .before .before .before .before .before .before .before .before .before .args .file .now) (c .before .before .before .before .before .before .before .before .before .before .before .before .before .before .before .loop .at) (c .before .before .before .before .before .before .before .before .before .before .before .before .read-line .ensures)) ∙ c .before .before .before .before .before .before .before .before .before .before .context .given .1) .1) }
 
 loop-less : tie.Need-loop-less Inv-loop μ-loop
-loop-less c = let w = law.within _ _ _ _ _ _ _ _ _ _ (c .before .before .before .before .before .before .before .before .before .before .before .before .before .before .before .before .pre .2) (c .before .before .before .before .before .before .before .before .before .before .before .before .before .before .loop .inv) (c .before .before .before .before .before .before .before .before .before .before .before .before .before .loop-test .taken) _ _ _ (sym (part-of (lineOf (c .before .before .before .before .before .before .before .before .before .before .before .before .before .before .before .before .args .wide)) (c .before .before .before .before .before .before .before .before .before .before .before .before .before .before .before .before .args .file .now) (c .before .before .before .before .before .before .before .before .before .before .before .before .before .before .loop .at) (c .before .before .before .before .before .before .before .before .before .before .before .read-line .ensures)) ∙ c .before .before .before .before .before .before .before .before .before .context .given .1) in omega (arith, w .0, w .1)
+loop-less c = let w = law.within _ _ _ _ _ _ _ _ _ (c .before .before .before .before .before .before .before .before .before .before .before .before .before .before .before .before .before .pre .2) (c .before .before .before .before .before .before .before .before .before .before .before .before .before .before .before .loop .inv) (c .before .before .before .before .before .before .before .before .before .before .before .before .before .before .loop-test .taken) _ _ _ (sym (part-of (lineOf (c .before .before .before .before .before .before .before .before .before .before .before .before .before .before .before .before .before .args .wide)) (c .before .before .before .before .before .before .before .before .before .before .before .before .before .before .before .before .before .args .file .now) (c .before .before .before .before .before .before .before .before .before .before .before .before .before .before .before .loop .at) (c .before .before .before .before .before .before .before .before .before .before .before .before .read-line .ensures)) ∙ c .before .before .before .before .before .before .before .before .before .before .context .given .1) in omega (arith, w .0, w .1)
 
 loop-again : tie.Need-loop-again Inv-loop μ-loop
-loop-again c = law.turns _ _ _ _ _ _ _ _ _ _ (c .before .before .before .before .before .before .before .before .before .before .before .before .before .before .before .before .pre .2) (c .before .before .before .before .before .before .before .before .before .before .before .before .before .before .loop .inv) (c .before .before .before .before .before .before .before .before .before .before .before .before .before .loop-test .taken) _ _ _ (sym (part-of (lineOf (c .before .before .before .before .before .before .before .before .before .before .before .before .before .before .before .before .args .wide)) (c .before .before .before .before .before .before .before .before .before .before .before .before .before .before .before .before .args .file .now) (c .before .before .before .before .before .before .before .before .before .before .before .before .before .before .loop .at) (c .before .before .before .before .before .before .before .before .before .before .before .read-line .ensures)) ∙ c .before .before .before .before .before .before .before .before .before .context .given .1) _ _ (c .before .before .step-in .ensures) _ _ (c .before .slot .ensures) (c .row-width .ensures)
+loop-again c = law.turns _ _ _ _ _ _ _ _ _ (c .before .before .before .before .before .before .before .before .before .before .before .before .before .before .before .before .before .pre .2) (c .before .before .before .before .before .before .before .before .before .before .before .before .before .before .before .loop .inv) (c .before .before .before .before .before .before .before .before .before .before .before .before .before .before .loop-test .taken) _ _ _ (sym (part-of (lineOf (c .before .before .before .before .before .before .before .before .before .before .before .before .before .before .before .before .before .args .wide)) (c .before .before .before .before .before .before .before .before .before .before .before .before .before .before .before .before .before .args .file .now) (c .before .before .before .before .before .before .before .before .before .before .before .before .before .before .before .loop .at) (c .before .before .before .before .before .before .before .before .before .before .before .before .read-line .ensures)) ∙ c .before .before .before .before .before .before .before .before .before .before .context .given .1) _ _ (c .before .before .before .step-in .ensures) _ _ _ (c .before .before .slot .ensures) (c .before .keep .ensures) (c .row-width .ensures)
 
 returns-2 : tie.Need-returns-2 Inv-loop μ-loop
-returns-2 c = law.ends _ _ _ _ _ _ _ _ _ _ (c .before .before .before .pre .2) (c .before .loop .inv) _ (c .loop-test .left) refl refl refl refl refl
+returns-2 c = law.ends _ _ _ _ _ _ _ _ _ (c .before .before .before .pre .2) (c .before .loop .inv) _ (c .loop-test .left) refl refl refl
 
 pub play-spec : {M : Type 1} → statement M
 play-spec =
@@ -96,12 +96,12 @@ play-spec =
     read-line-requires
     enum-known-context
     enum-told
-    add-t28
+    add-t27
     returns
     step-in-requires
     slot-requires
-    array-write-codes
-    array-write-runs
+    keep-requires
+    element-write-kept
     add-n
     cast-row-width
     row-width-requires
