@@ -11,7 +11,7 @@ use model::Code;
 use text::decimals::put_decimal;
 use text::decimals::width;
 use text::words::has_room;
-use text::words::put_text;
+use text::words::put_byte;
 
 // ---- a code as a number: the paper's plus 12
 pub fn slot(code: Code) -> u8
@@ -47,7 +47,7 @@ fn put_slot(buf: &mut [u8], at: usize, v: u8) -> usize
     ensures { λ r. ⌜ (r ≡ at + length (slotText v)) × (now (buf .exit) ≡ sets (now (buf .entry)) at (slotText v)) ⌝ }
 {
     if v < 12 {
-        let next = put_text(buf, at, b"-");
+        let next = put_byte(buf, at, b'-');
         return put_decimal(buf, next, (12 - v) as u32);
     }
     put_decimal(buf, at, (v - 12) as u32)
@@ -78,11 +78,12 @@ pub fn put_row(buf: &mut [u8], at: usize, n: u32, v: u8, running: u8) -> usize
         return at;
     }
     let a = put_decimal(buf, at, n);
-    let b = put_text(buf, a, b",");
+    let b = put_byte(buf, a, b',');
     let c = put_slot(buf, b, v);
-    let d = put_text(buf, c, b",");
+    let d = put_byte(buf, c, b',');
     let e = put_decimal(buf, d, running as u32);
-    put_text(buf, e, b"\r\n")
+    let f = put_byte(buf, e, b'\r');
+    put_byte(buf, f, b'\n')
 }
 
 // ---- what is kept of a row

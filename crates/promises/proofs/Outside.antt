@@ -22,6 +22,7 @@ of-text =
     of text.words.begins.signature (λ M. text.words.begins.clauses) (λ M. text.words.begins.Met.met) (λ w κs a g h o p. plain w result) ∷
     of text.words.has_room.signature (λ M. text.words.has_room.clauses) (λ M. text.words.has_room.Met.met) (λ w κs a g h o p. plain w result) ∷
     of text.words.put_text.signature (λ M. text.words.put_text.clauses) (λ M. text.words.put_text.Met.met) (λ w κs a g h o p. plain w both) ∷
+    of text.words.put_byte.signature (λ M. text.words.put_byte.clauses) (λ M. text.words.put_byte.Met.met) (λ w κs a g h o p. plain w both) ∷
     []
 
 pub of-services : List Promise

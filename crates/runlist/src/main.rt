@@ -3,7 +3,7 @@
 use libc::STDIN_FILENO;
 use libc::STDOUT_FILENO;
 use text::decimals::put_decimal;
-use text::words::put_text;
+use text::words::put_byte;
 
 fn main() {
     let mut file = [0u8; 65537];
@@ -11,9 +11,10 @@ fn main() {
     let mut answer = [0u8; 65536];
     let r = runner::run_list(&file[..n], &mut answer);
     if r < 0 {
-        let digits = put_text(&mut answer, 0, b"-");
-        let after = put_decimal(&mut answer, digits, (0 - r) as u32);
-        let end = put_text(&mut answer, after, b"\r\n");
+        let a = put_byte(&mut answer, 0, b'-');
+        let b = put_decimal(&mut answer, a, (0 - r) as u32);
+        let c = put_byte(&mut answer, b, b'\r');
+        let end = put_byte(&mut answer, c, b'\n');
         io::write_all(STDOUT_FILENO, &answer[..end]);
         return;
     }

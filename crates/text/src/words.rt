@@ -1,6 +1,7 @@
 // Bytes and fixed words: looked for in a part of a file, and put into a buffer.
 // Each function is a definition of specs/Bytes, for every value.
 ghost use mathlib.Core.Path.{_≡_};
+ghost use mathlib.Core.List.{[], _∷_};
 ghost use Prim.Native.Nat.{_+_};
 ghost use lib.ListN.{getD, length};
 ghost use lib.Dec.{leb};
@@ -56,4 +57,15 @@ pub fn put_text(buf: &mut [u8], at: usize, t: &[u8]) -> usize
         i = i + 1;
     }
     at + i
+}
+
+// The byte b at the place `at`, and the place after it; without room nothing is written and the place stays.
+pub fn put_byte(buf: &mut [u8], at: usize, b: u8) -> usize
+    ensures { λ r. ⌜ (r ≡ placeAfter (now (buf .entry)) at (b ∷ [])) × (now (buf .exit) ≡ put (now (buf .entry)) at (b ∷ [])) ⌝ }
+{
+    if buf.len() <= at {
+        return at;
+    }
+    buf[at] = b;
+    at + 1
 }

@@ -24,39 +24,36 @@ returns c =
 put-decimal-requires : tie.Need-put-decimal-requires
 put-decimal-requires c κs = search needs
 
-slice-aggregate-put-text : tie.Need-slice-aggregate-put-text
-slice-aggregate-put-text c = search needs
-
-put-text-requires : tie.Need-put-text-requires
-put-text-requires c κs = search needs
+put-byte-requires : tie.Need-put-byte-requires
+put-byte-requires c κs = search needs
 
 put-slot-requires : tie.Need-put-slot-requires
 unfolding keptText
 put-slot-requires c κs =
-    let a = c .before .before .before .before .before .before .before .before .before .before .before .before .before .args in
+    let byte = c .before .before .before in
+    let number = byte .before .before .before .before in
+    let else = number .before .before in
+    let a = else .before .before .before .args in
     let t₃ = bytes "," ++ (decimal (a .running) ++ bytes "\r\n") in
     let t₂ = slotText (a .v) ++ t₃ in
     let t₁ = bytes "," ++ t₂ in
-    let h : a .at + length (decimal (a .n) ++ t₁) ≤ length (a .buf .now) = room _ _ _ (c .before .before .before .before .before .before .before .before .before .before .before .row-fits .ensures) (c .before .before .before .before .before .before .before .before .before .before .if1 .left) in
-    let p = law.placed (a .buf .now) (a .at) (decimal (a .n)) _ _ (omega (arith, h, length-append (decimal (a .n)) t₁)) (c .before .before .before .before .before .before .before .before .put-decimal .ensures .0) (c .before .before .before .before .before .before .before .before .put-decimal .ensures .1) in
+    let h : a .at + length (decimal (a .n) ++ t₁) ≤ length (a .buf .now) = room _ _ _ (else .before .row-fits .ensures) (else .if1 .left) in
+    let p = law.placed (a .buf .now) (a .at) (decimal (a .n)) _ _ (omega (arith, h, length-append (decimal (a .n)) t₁)) (number .put-decimal .ensures .0) (number .put-decimal .ensures .1) in
     let g = law.room-after _ _ (decimal (a .n)) t₁ _ _ h p in
-    let q = law.placed _ _ (bytes ",") _ _ (omega (arith, g)) (c .before .before .before .put-text .ensures .0) (c .before .before .before .put-text .ensures .1) in
+    let q = law.placed _ _ (bytes ",") _ _ (omega (arith, g)) (byte .put-byte .ensures .0) (byte .put-byte .ensures .1) in
     omega (arith, law.room-after _ _ (bytes ",") t₂ _ _ g q, length-append (slotText (a .v)) t₃)
 
-slice-aggregate-put-text-2 : tie.Need-slice-aggregate-put-text-2
-slice-aggregate-put-text-2 c = search needs
-
-put-text-requires-2 : tie.Need-put-text-requires-2
-put-text-requires-2 c κs = search needs
+put-byte-requires-2 : tie.Need-put-byte-requires-2
+put-byte-requires-2 c κs = search needs
 
 put-decimal-requires-2 : tie.Need-put-decimal-requires-2
 put-decimal-requires-2 c κs = search needs
 
-slice-aggregate-put-text-3 : tie.Need-slice-aggregate-put-text-3
-slice-aggregate-put-text-3 c = search needs
+put-byte-requires-3 : tie.Need-put-byte-requires-3
+put-byte-requires-3 c κs = search needs
 
-put-text-requires-3 : tie.Need-put-text-requires-3
-put-text-requires-3 c κs = search needs
+put-byte-requires-4 : tie.Need-put-byte-requires-4
+put-byte-requires-4 c κs = search needs
 
 same-length : tie.Need-same-length
 same-length c = search needs
@@ -64,20 +61,30 @@ same-length c = search needs
 returns-2 : tie.Need-returns-2
 unfolding keptText
 returns-2 c =
-    let a = c .before .before .before .before .before .before .before .before .before .before .before .before .before .before .before .before .before .before .before .before .before .before .before .before .before .before .before .before .before .before .args in
-    let h = room _ _ _ (c .before .before .before .before .before .before .before .before .before .before .before .before .before .before .before .before .before .before .before .before .before .before .before .before .before .before .before .before .row-fits .ensures) (c .before .before .before .before .before .before .before .before .before .before .before .before .before .before .before .before .before .before .before .before .before .before .before .before .before .before .before .if1 .left) in
-    let t₄ = decimal (a .running) ++ bytes "\r\n" in
+    let feed = c .before .before in
+    let return = feed .before .before .before .before in
+    let task = return .before .before .before .before in
+    let second = task .before .before .before .before in
+    let code = second .before .before .before .before in
+    let first = code .before .before .before .before in
+    let number = first .before .before .before .before in
+    let else = number .before .before in
+    let a = else .before .before .before .args in
+    let h = room _ _ _ (else .before .row-fits .ensures) (else .if1 .left) in
+    let t₅ = bytes "\r" ++ bytes "\n" in
+    let t₄ = decimal (a .running) ++ t₅ in
     let t₃ = bytes "," ++ t₄ in
     let t₂ = slotText (a .v) ++ t₃ in
     let t₁ = bytes "," ++ t₂ in
     law.whole (a .buf .now) (a .at) (decimal (a .n) ++ t₁) _ _ h
-    (law.then (a .buf .now) (a .at) (decimal (a .n)) t₁ _ _ _ _ h (c .before .before .before .before .before .before .before .before .before .before .before .before .before .before .before .before .before .before .before .before .before .before .before .before .before .put-decimal .ensures .0) (c .before .before .before .before .before .before .before .before .before .before .before .before .before .before .before .before .before .before .before .before .before .before .before .before .before .put-decimal .ensures .1)
-    (λ g₁. law.then _ _ (bytes ",") t₂ _ _ _ _ g₁ (c .before .before .before .before .before .before .before .before .before .before .before .before .before .before .before .before .before .before .before .before .put-text .ensures .0) (c .before .before .before .before .before .before .before .before .before .before .before .before .before .before .before .before .before .before .before .before .put-text .ensures .1)
-    (λ g₂. let o = law.stored _ _ (slotText (a .v)) _ _ (c .before .before .before .before .before .before .before .before .before .before .before .before .before .before .before .before .put-slot .ensures) in
+    (law.then (a .buf .now) (a .at) (decimal (a .n)) t₁ _ _ _ _ h (number .put-decimal .ensures .0) (number .put-decimal .ensures .1)
+    (λ g₁. law.then _ _ (bytes ",") t₂ _ _ _ _ g₁ (first .put-byte .ensures .0) (first .put-byte .ensures .1)
+    (λ g₂. let o = law.stored _ _ (slotText (a .v)) _ _ (code .put-slot .ensures) in
     law.followed _ _ (slotText (a .v)) t₃ _ _ _ _ o
-    (law.then _ _ (bytes ",") t₄ _ _ _ _ (law.room-after _ _ (slotText (a .v)) t₃ _ _ g₂ o) (c .before .before .before .before .before .before .before .before .before .before .before .put-text2 .ensures .0) (c .before .before .before .before .before .before .before .before .before .before .before .put-text2 .ensures .1)
-    (λ g₄. law.then _ _ (decimal (a .running)) (bytes "\r\n") _ _ _ _ g₄ (c .before .before .before .before .before .before .before .put-decimal2 .ensures .0) (c .before .before .before .before .before .before .before .put-decimal2 .ensures .1)
-    (λ g₅. law.placed _ _ (bytes "\r\n") _ _ g₅ (c .before .before .put-text3 .ensures .0) (c .before .before .put-text3 .ensures .1)))))))
+    (law.then _ _ (bytes ",") t₄ _ _ _ _ (law.room-after _ _ (slotText (a .v)) t₃ _ _ g₂ o) (second .put-byte2 .ensures .0) (second .put-byte2 .ensures .1)
+    (λ g₄. law.then _ _ (decimal (a .running)) t₅ _ _ _ _ g₄ (task .put-decimal2 .ensures .0) (task .put-decimal2 .ensures .1)
+    (λ g₅. law.then _ _ (bytes "\r") (bytes "\n") _ _ _ _ g₅ (return .put-byte3 .ensures .0) (return .put-byte3 .ensures .1)
+    (λ g₆. law.placed _ _ (bytes "\n") _ _ g₆ (feed .put-byte4 .ensures .0) (feed .put-byte4 .ensures .1))))))))
 
 pub put-row-spec : {M : Type 1} → statement M
 put-row-spec =
@@ -86,13 +93,11 @@ put-row-spec =
     row-fits-requires
     returns
     put-decimal-requires
-    slice-aggregate-put-text
-    put-text-requires
+    put-byte-requires
     put-slot-requires
-    slice-aggregate-put-text-2
-    put-text-requires-2
+    put-byte-requires-2
     put-decimal-requires-2
-    slice-aggregate-put-text-3
-    put-text-requires-3
+    put-byte-requires-3
+    put-byte-requires-4
     same-length
     returns-2)

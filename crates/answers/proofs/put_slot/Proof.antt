@@ -11,11 +11,8 @@ use borrow.Author.Needs.{needs}
 use Rattle.answers.proofs.put_slot.Statement.{statement}
 use Rattle.answers.proofs.put_slot.Tie as tie
 
-slice-aggregate-put-text : tie.Need-slice-aggregate-put-text
-slice-aggregate-put-text c = search needs
-
-put-text-requires : tie.Need-put-text-requires
-put-text-requires c κs = search needs
+put-byte-requires : tie.Need-put-byte-requires
+put-byte-requires c κs = search needs
 
 sub-put-decimal : tie.Need-sub-put-decimal
 sub-put-decimal c = search needs
@@ -31,10 +28,14 @@ same-length c = search needs
 
 returns : tie.Need-returns
 unfolding slotText
-returns c = let h : c .before .before .before .before .before .before .before .before .before .before .before .args .at + length (bytes "-" ++ decimal (12 - c .before .before .before .before .before .before .before .before .before .before .before .args .v)) ≤ length (c .before .before .before .before .before .before .before .before .before .before .before .args .buf .now) = rw (lt-ltb _ _ (c .before .before .before .before .before .before .before .before .before .if1 .taken)) at (c .before .before .before .before .before .before .before .before .before .before .before .pre) in
-    let p = law.then _ _ (bytes "-") (decimal (12 - c .before .before .before .before .before .before .before .before .before .before .before .args .v)) _ _ _ _ h (c .before .before .before .before .before .before .put-text .ensures .0) (c .before .before .before .before .before .before .put-text .ensures .1)
+returns c =
+    let s = c .before .before .before .before .before .before .before .before .before .before in
+    let a = s .args in
+    let under = lt-ltb _ _ (c .before .before .before .before .before .before .before .before .if1 .taken) in
+    let h : a .at + length (bytes "-" ++ decimal (12 - a .v)) ≤ length (a .buf .now) = rw under at (s .pre) in
+    let p = law.then _ _ (bytes "-") (decimal (12 - a .v)) _ _ _ _ h (c .before .before .before .before .before .before .put-byte .ensures .0) (c .before .before .before .before .before .before .put-byte .ensures .1)
     (λ g. law.placed _ _ _ _ _ g (c .before .before .put-decimal .ensures .0) (c .before .before .put-decimal .ensures .1)) in
-    rw (lt-ltb _ _ (c .before .before .before .before .before .before .before .before .before .if1 .taken)) (p .place, p .stores)
+    rw under (p .place, p .stores)
 
 cast-put-decimal-2 : tie.Need-cast-put-decimal-2
 cast-put-decimal-2 c = search needs
@@ -47,16 +48,19 @@ same-length-2 c = search needs
 
 returns-2 : tie.Need-returns-2
 unfolding slotText
-returns-2 c = let h : c .before .before .before .before .before .before .args .at + length (decimal (c .before .before .before .before .before .before .args .v - 12)) ≤ length (c .before .before .before .before .before .before .args .buf .now) = rw (le-ltb _ _ (c .before .before .before .before .if1 .left)) at (c .before .before .before .before .before .before .pre) in
+returns-2 c =
+    let s = c .before .before .before .before .before .before in
+    let a = s .args in
+    let over = le-ltb _ _ (c .before .before .before .before .if1 .left) in
+    let h : a .at + length (decimal (a .v - 12)) ≤ length (a .buf .now) = rw over at (s .pre) in
     let p = law.placed _ _ _ _ _ h (c .before .before .put-decimal2 .ensures .0) (c .before .before .put-decimal2 .ensures .1) in
-    rw (le-ltb _ _ (c .before .before .before .before .if1 .left)) (p .place, p .stores)
+    rw over (p .place, p .stores)
 
 pub put-slot-spec : {M : Type 1} → statement M
 put-slot-spec =
     tie.close
     (tie.spec
-    slice-aggregate-put-text
-    put-text-requires
+    put-byte-requires
     sub-put-decimal
     cast-put-decimal
     put-decimal-requires

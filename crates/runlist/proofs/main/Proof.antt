@@ -32,43 +32,46 @@ slice-aggregate-run-list-2 c = search needs
 run-list-requires : tie.Need-run-list-requires
 run-list-requires c κs = search needs
 
-slice-aggregate-put-text : tie.Need-slice-aggregate-put-text
-slice-aggregate-put-text c = search needs
+slice-aggregate-put-byte : tie.Need-slice-aggregate-put-byte
+slice-aggregate-put-byte c = search needs
 
-slice-aggregate-put-text-2 : tie.Need-slice-aggregate-put-text-2
-slice-aggregate-put-text-2 c = search needs
-
-put-text-requires : tie.Need-put-text-requires
-put-text-requires c κs = search needs
+put-byte-requires : tie.Need-put-byte-requires
+put-byte-requires c κs = search needs
 
 slice-aggregate-put-decimal : tie.Need-slice-aggregate-put-decimal
 slice-aggregate-put-decimal c = search needs
 
 sub-put-decimal : tie.Need-sub-put-decimal
-sub-put-decimal c = opposite-fits _ _ (omega (arith, c .before .before .before .before .before .before .before .run-list .kept .1 .0)) _ (c .before .before .before .before .before .before .before .run-list .ensures .0) (c .before .before .before .before .before .if1 .taken)
+sub-put-decimal c = opposite-fits _ _ (omega (arith, c .before .before .before .before .before .before .run-list .kept .1 .0)) _ (c .before .before .before .before .before .before .run-list .ensures .0) (c .before .before .before .before .if1 .taken)
 
 cast-put-decimal : tie.Need-cast-put-decimal
-cast-put-decimal c = opposite-casts _ _ (omega (arith, c .before .before .before .before .before .before .before .run-list .kept .1 .0)) _ (c .before .before .before .before .before .before .before .run-list .ensures .0) (c .before .before .before .before .before .if1 .taken)
+cast-put-decimal c = opposite-casts _ _ (omega (arith, c .before .before .before .before .before .before .run-list .kept .1 .0)) _ (c .before .before .before .before .before .before .run-list .ensures .0) (c .before .before .before .before .if1 .taken)
 
 put-decimal-requires : tie.Need-put-decimal-requires
 put-decimal-requires c κs = search needs
 
-slice-aggregate-put-text-3 : tie.Need-slice-aggregate-put-text-3
-slice-aggregate-put-text-3 c = search needs
+slice-aggregate-put-byte-2 : tie.Need-slice-aggregate-put-byte-2
+slice-aggregate-put-byte-2 c = search needs
 
-slice-aggregate-put-text-4 : tie.Need-slice-aggregate-put-text-4
-slice-aggregate-put-text-4 c = search needs
+put-byte-requires-2 : tie.Need-put-byte-requires-2
+put-byte-requires-2 c κs = search needs
 
-put-text-requires-2 : tie.Need-put-text-requires-2
-put-text-requires-2 c κs = search needs
+slice-aggregate-put-byte-3 : tie.Need-slice-aggregate-put-byte-3
+slice-aggregate-put-byte-3 c = search needs
+
+put-byte-requires-3 : tie.Need-put-byte-requires-3
+put-byte-requires-3 c κs = search needs
 
 -- the sign, ten digits at most, and the line end
-few : (c : tie.After-answer8) → c .before .put-text2 .result ≤ 13
+few : (c : tie.After-answer10) → c .before .put-byte3 .result ≤ 13
 few c =
-    let d = c .before .before .before .before .before in
-    let t = d .before .before .before in
-    let r = t .before .before .before .before .before .run-list in
-    omega (arith, after-near _ _ _ _ (c .before .put-text2 .ensures .0), after-near _ _ _ _ (d .put-decimal .ensures .0), after-near _ _ _ _ (t .put-text .ensures .0), opposite-few _ _ (omega (arith, r .kept .1 .0)) _ (r .ensures .0) (t .before .before .before .if1 .taken))
+    let feed = c .before in
+    let return = feed .before .before .before in
+    let number = return .before .before .before in
+    let sign = number .before .before .before in
+    let then = sign .before .before in
+    let r = then .before .before .run-list in
+    omega (arith, after-near _ _ _ _ (feed .put-byte3 .ensures .0), after-near _ _ _ _ (return .put-byte2 .ensures .0), after-near _ _ _ _ (number .put-decimal .ensures .0), after-near _ _ _ _ (sign .put-byte .ensures .0), opposite-few _ _ (omega (arith, r .kept .1 .0)) _ (r .ensures .0) (then .if1 .taken))
 
 array-share-prefix-answer : tie.Need-array-share-prefix-answer
 array-share-prefix-answer c = omega (arith, few c)
@@ -111,16 +114,16 @@ main-spec =
     slice-aggregate-run-list
     slice-aggregate-run-list-2
     run-list-requires
-    slice-aggregate-put-text
-    slice-aggregate-put-text-2
-    put-text-requires
+    slice-aggregate-put-byte
+    put-byte-requires
     slice-aggregate-put-decimal
     sub-put-decimal
     cast-put-decimal
     put-decimal-requires
-    slice-aggregate-put-text-3
-    slice-aggregate-put-text-4
-    put-text-requires-2
+    slice-aggregate-put-byte-2
+    put-byte-requires-2
+    slice-aggregate-put-byte-3
+    put-byte-requires-3
     array-share-prefix-answer
     slice-aggregate-write-all
     write-all-requires
