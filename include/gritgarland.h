@@ -17,8 +17,8 @@
 /* The version: 10000 times its first number, 100 times its second, and its third. The second counts the landings after the base
    (docs/landings) and goes up with each; the first goes up too where callers must be built again; the third with a correction between
    two landings. What came before 1.5.0 has no such number. */
-#define GRITGARLAND_VERSION 30800
-#define GRITGARLAND_VERSION_STRING "3.8.0"
+#define GRITGARLAND_VERSION 30900
+#define GRITGARLAND_VERSION_STRING "3.9.0"
 
 #ifdef __cplusplus
 extern "C" {

@@ -27,7 +27,7 @@ cat >"$work/caller.c" <<'END'
 #define GRITGARLAND_NO_RUN_LIST
 #include "gritgarland.h"
 
-#if GRITGARLAND_VERSION < 30800
+#if GRITGARLAND_VERSION < 30900
 #error "an old header"
 #endif
 

@@ -72,7 +72,7 @@ static void names(void)
     expect(gritgarland_code_name(INT32_MIN)[0] == 'n' && gritgarland_code_name(INT32_MAX)[0] == 'n', "the outermost codes");
 }
 
-#if GRITGARLAND_VERSION < 30800
+#if GRITGARLAND_VERSION < 30900
 #error "the version can't be compared"
 #endif
 

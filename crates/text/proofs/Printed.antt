@@ -1,4 +1,4 @@
--- The theorems of specs/Statement: a text that is put into a buffer stands in its places, and every other byte stays.
+-- The theorems of specs/Statement: a text that is put into a buffer stands in its places, and every other byte stays; two printers are refuted.
 -- They rest on Stores and on the digits' count.
 use Prim.Native.Nat.{ℕ, zero, suc, _+_, _<_, _≤_}
 use mathlib.Core.Path.{_≡_, refl, sym, _∙_}
@@ -8,11 +8,11 @@ use mathlib.Core.List.{List, [], _∷_}
 use native.Mathlib.Omega.{arith}
 use native.Mathlib.Decide.{decLe}
 use lib.Dec.{leb}
-use lib.ListN.{length, getD, set, length-set}
+use lib.ListN.{length, getD, set, length-set, replicate}
 use lib.Seq.{sets, getD-set-same, getD-set-other}
 use Rattle.text.specs.Bytes.{put}
-use Rattle.text.specs.Decimal.{decimal}
-use Rattle.text.specs.Statement.{Outside, OthersStay, TextStands, LengthStays, FewPlaces, NumberAlone}
+use Rattle.text.specs.Decimal.{decimal, decimalIn}
+use Rattle.text.specs.Statement.{Outside, OthersStay, TextStands, LengthStays, FewPlaces, NumberAlone, FillingRefuted, EndingRefuted}
 use Rattle.text.proofs.Digits.{width-one, width-step, width-most}
 use Rattle.text.proofs.Stores.{put-room, length-put}
 
@@ -53,3 +53,12 @@ few-places n h = (go (decLe n 9), width-most 9 n (omega arith))
 
 pub number-alone : NumberAlone
 number-alone buf at n i o = others-stay buf at (decimal n) i o
+
+-- a 7 in ten places of ones
+pub filling-refuted : FillingRefuted
+unfolding put decimal decimalIn
+filling-refuted h = let z : _≡_ {A = ℕ} 48 1 = h (replicate 10 1) 0 7 5 (inr (omega arith)) in absurd (omega arith)
+
+pub ending-refuted : EndingRefuted
+unfolding put decimal decimalIn
+ending-refuted h = let z : _≡_ {A = ℕ} 0 1 = h (replicate 10 1) 0 7 1 (inr (omega arith)) in absurd (omega arith)
