@@ -1,38 +1,58 @@
--- What is kept of a row says the row again: its code, and the running task, where a refusal left the one before.
+-- What is kept of a row is a byte, and says the row again: a code of one digit, and a task's number.
 -- It rests on the definitions of specs/.
-use mathlib.Core.Path.{_≡_, refl, sym}
-use mathlib.Core.Bool.{true}
-use Prim.Native.Nat.{ℕ, _+_, _*_, _%_, _<_, _≤_}
+use mathlib.Core.Path.{_≡_, refl}
+use Prim.Native.Nat.{ℕ, _+_, _*_, _/_, _≤_, _<_}
+use mathlib.Core.Bool.{cond}
 use native.Mathlib.Omega.{arith}
-use native.Mathlib.Nat.{mod-eq-of-lt}
-use borrow.Author.Tests.{le-ltb}
+use native.Mathlib.Decide.{decLt}
+use borrow.Author.Tests.{lt-ltb, le-ltb}
+use lib.Dec.{ltb}
 use Rattle.model.specs.declared.Code.{Code}
 use Rattle.model.specs.declared.Code.the-variants.{NoErr, Pending, Overflow, WContext, WState, Timeout, WrongParam, IlUse, NoExs, Dlt, Released, Unsound}
-use Rattle.model.specs.Code.{isRefusal}
-use Rattle.answers.specs.Slots.{slotOf, keptOf, slotIn, runsIn}
+use Rattle.answers.specs.Slots.{slotOf, baseOf, keptOf, slotIn, runsIn}
 
-pub record Says (before : ℕ) (c : Code) (run : ℕ) : Type 0 where
-  pub slot : slotIn (keptOf (slotOf c) run) ≡ slotOf c
-  pub runs : runsIn before (keptOf (slotOf c) run) ≡ run
+pub record Says (c : Code) (run : ℕ) : Type 0 where
+  pub slot : slotIn (keptOf c run) ≡ slotOf c
+  pub runs : runsIn (keptOf c run) ≡ run
 
--- a code of 0 or 1, with the task that runs
-with-task : (before m k run : ℕ) → k ≡ 32 * m + run % 32 → 1 ≤ m → run < 32 → (slotIn k ≡ 11 + m) × (runsIn before k ≡ run)
-unfolding slotIn runsIn
-with-task before m k run e low h =
-    let r : run % 32 ≡ run = mod-eq-of-lt h in
-    rw (le-ltb k 32 (omega (arith, e))) (omega (arith, e, r), omega (arith, e, r))
+-- the q-th code's 25 numbers
+ranked : (q run k : ℕ) → k ≡ 25 * q + run → run ≤ 24 → slotIn k ≡ cond (ltb q 2) (3 + q) (5 + q)
+unfolding slotIn
+ranked q run k e h = go (decLt q 2)
+  where
+    go : Dec (q < 2) → cond (ltb k 50) (3 + k / 25) (5 + k / 25) ≡ cond (ltb q 2) (3 + q) (5 + q)
+    go (yes p) = rw (lt-ltb q 2 p, lt-ltb k 50 (omega (arith, e))) (omega (arith, e))
+    go (no p) = rw (le-ltb q 2 (omega arith), le-ltb k 50 (omega (arith, e))) (omega (arith, e))
 
-pub kept-says : (before : ℕ) (c : Code) (run : ℕ) → run < 32 → (isRefusal c ≡ true → run ≡ before) → Says before c run
-unfolding keptOf slotIn runsIn
-kept-says before NoErr run h e = let t = with-task before 1 (32 + run % 32) run refl (omega arith) h in record { slot = t .0; runs = t .1 }
-kept-says before Pending run h e = let t = with-task before 2 (64 + run % 32) run refl (omega arith) h in record { slot = t .0; runs = t .1 }
-kept-says before Overflow run h e = record { slot = refl; runs = sym (e refl) }
-kept-says before WContext run h e = record { slot = refl; runs = sym (e refl) }
-kept-says before WState run h e = record { slot = refl; runs = sym (e refl) }
-kept-says before Timeout run h e = record { slot = refl; runs = sym (e refl) }
-kept-says before WrongParam run h e = record { slot = refl; runs = sym (e refl) }
-kept-says before IlUse run h e = record { slot = refl; runs = sym (e refl) }
-kept-says before NoExs run h e = record { slot = refl; runs = sym (e refl) }
-kept-says before Dlt run h e = record { slot = refl; runs = sym (e refl) }
-kept-says before Released run h e = record { slot = refl; runs = sym (e refl) }
-kept-says before Unsound run h e = record { slot = refl; runs = sym (e refl) }
+says : (c : Code) (run q : ℕ) → baseOf c ≡ 25 * q → run ≤ 24 → (slotIn (keptOf c run) ≡ cond (ltb q 2) (3 + q) (5 + q)) × (runsIn (keptOf c run) ≡ run)
+says c run q e h = let a : keptOf c run ≡ 25 * q + run = rw (le-ltb 24 run h, e) in (ranked q run (keptOf c run) a h, rw a (omega (arith, h)))
+
+-- of the codes before the last three
+pub kept-says : (c : Code) (run : ℕ) → baseOf c ≤ 200 → run ≤ 24 → Says c run
+kept-says NoErr run r h = let t = says NoErr run 7 refl h in record { slot = t .0; runs = t .1 }
+kept-says Pending run r h = let t = says Pending run 8 refl h in record { slot = t .0; runs = t .1 }
+kept-says Overflow run r h = let t = says Overflow run 6 refl h in record { slot = t .0; runs = t .1 }
+kept-says WContext run r h = let t = says WContext run 5 refl h in record { slot = t .0; runs = t .1 }
+kept-says WState run r h = let t = says WState run 4 refl h in record { slot = t .0; runs = t .1 }
+kept-says Timeout run r h = let t = says Timeout run 3 refl h in record { slot = t .0; runs = t .1 }
+kept-says WrongParam run r h = let t = says WrongParam run 2 refl h in record { slot = t .0; runs = t .1 }
+kept-says IlUse run r h = let t = says IlUse run 1 refl h in record { slot = t .0; runs = t .1 }
+kept-says NoExs run r h = let t = says NoExs run 0 refl h in record { slot = t .0; runs = t .1 }
+kept-says Dlt run r h = absurd (omega arith)
+kept-says Released run r h = absurd (omega arith)
+kept-says Unsound run r h = absurd (omega arith)
+
+-- every one begins at 225 at most, so that what is kept is a byte
+pub base-most : (c : Code) → baseOf c ≤ 225
+base-most NoErr = omega arith
+base-most Pending = omega arith
+base-most Overflow = omega arith
+base-most WContext = omega arith
+base-most WState = omega arith
+base-most Timeout = omega arith
+base-most WrongParam = omega arith
+base-most IlUse = omega arith
+base-most NoExs = omega arith
+base-most Dlt = omega arith
+base-most Released = omega arith
+base-most Unsound = omega arith

@@ -3,7 +3,7 @@
 use mathlib.Core.Bool.{cond}
 use Prim.Native.Nat.{ℕ, _+_, _-_, _/_, _%_}
 use mathlib.Core.List.{List, _∷_, _++_}
-use lib.Dec.{eqb, ltb}
+use lib.Dec.{ltb}
 use Rattle.text.specs.Bytes.{bytes}
 use Rattle.text.specs.Decimal.{decimal}
 use Rattle.model.specs.declared.Code.{Code}
@@ -31,15 +31,29 @@ unfoldable pub keptText : ℕ → ℕ → ℕ → List ℕ
 keptText n v running = decimal n ++ (44 ∷ (slotText v ++ (44 ∷ (decimal running ++ bytes "\r\n"))))
 
 -- ---- what is kept of a row
--- A refusal changes nothing, who runs neither: it is kept as its code alone, below 12. Any other row is kept with its running task,
--- from 32 on where the code is 0, from 64 on where it is 1.
-unfoldable pub keptOf : ℕ → ℕ → ℕ
-keptOf v running = cond (ltb v 12) v (cond (eqb v 12) 32 64 + running % 32)
+-- The nine codes that a call of a list answers, from -9 to 1, in this order, have 25 numbers each: one for each task, and one for nobody.
+-- The other three answer no call of a list, and begin after them.
+abbrev pub baseOf : Code → ℕ
+baseOf NoErr = 175
+baseOf Pending = 200
+baseOf Overflow = 150
+baseOf WContext = 125
+baseOf WState = 100
+baseOf Timeout = 75
+baseOf WrongParam = 50
+baseOf IlUse = 25
+baseOf NoExs = 0
+baseOf Dlt = 225
+baseOf Released = 225
+baseOf Unsound = 225
+
+abbrev pub keptOf : Code → ℕ → ℕ
+keptOf c running = baseOf c + cond (ltb 24 running) 24 running
 
 -- the code of what is kept
 unfoldable pub slotIn : ℕ → ℕ
-slotIn k = cond (ltb k 32) k (11 + k / 32)
+slotIn k = cond (ltb k 50) (3 + k / 25) (5 + k / 25)
 
--- and its running task: after a refusal the one before
-unfoldable pub runsIn : ℕ → ℕ → ℕ
-runsIn before k = cond (ltb k 32) before (k % 32)
+-- and its running task
+abbrev pub runsIn : ℕ → ℕ
+runsIn k = k % 25

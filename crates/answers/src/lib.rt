@@ -6,7 +6,7 @@ ghost use lib.Dec.{leb};
 ghost use lib.ListN.{length};
 ghost use lib.Seq.{sets};
 ghost use Rattle.text.specs.Bytes.{put, placeAfter};
-ghost use Rattle.answers.specs.Slots.{slotOf, slotText, keptText, keptOf, slotIn, runsIn};
+ghost use Rattle.answers.specs.Slots.{slotOf, slotText, keptText, baseOf, keptOf, slotIn, runsIn};
 use model::Code;
 use text::decimals::put_decimal;
 use text::decimals::width;
@@ -87,35 +87,49 @@ pub fn put_row(buf: &mut [u8], at: usize, n: u32, v: u8, running: u8) -> usize
 }
 
 // ---- what is kept of a row
-// One byte: a refusal's code alone, since it leaves who runs; any other's code and task.
-pub fn keep(v: u8, running: u8) -> u8
-    ensures { λ r. ⌜ r ≡ keptOf v running ⌝ }
+// Where a code's 25 numbers begin.
+fn base(code: Code) -> u8
+    ensures { λ r. ⌜ r ≡ baseOf code ⌝ }
 {
-    if v < 12 {
-        return v;
+    match code {
+        Code::NoErr => 175,
+        Code::Pending => 200,
+        Code::Overflow => 150,
+        Code::WContext => 125,
+        Code::WState => 100,
+        Code::Timeout => 75,
+        Code::WrongParam => 50,
+        Code::IlUse => 25,
+        Code::NoExs => 0,
+        Code::Dlt => 225,
+        Code::Released => 225,
+        Code::Unsound => 225,
     }
-    if v == 12 {
-        return 32 + running % 32;
+}
+
+// One byte for a code and a task.
+pub fn keep(code: Code, running: u8) -> u8
+    ensures { λ r. ⌜ r ≡ keptOf code running ⌝ }
+{
+    if 24 < running {
+        return base(code) + 24;
     }
-    64 + running % 32
+    base(code) + running
 }
 
 // The code that was kept.
 pub fn slot_kept(k: u8) -> u8
     ensures { λ r. ⌜ r ≡ slotIn k ⌝ }
 {
-    if k < 32 {
-        return k;
+    if k < 50 {
+        return 3 + k / 25;
     }
-    11 + k / 32
+    5 + k / 25
 }
 
-// The task that ran then, where `before` ran before.
-pub fn runs_kept(before: u8, k: u8) -> u8
-    ensures { λ r. ⌜ r ≡ runsIn before k ⌝ }
+// The task that was kept.
+pub fn runs_kept(k: u8) -> u8
+    ensures { λ r. ⌜ r ≡ runsIn k ⌝ }
 {
-    if k < 32 {
-        return before;
-    }
-    k % 32
+    k % 25
 }

@@ -19,7 +19,7 @@ use Rattle.model.specs.Sound.{Sound}
 use Rattle.ways.proofs.Done.{oneDigit}
 use Rattle.ways.proofs.Ways.{step-digit}
 use Rattle.walk.specs.Rows.{signed}
-use Rattle.runner.proofs.Steady.{step-still, step-runs}
+use Rattle.runner.proofs.Answered.{step-still, step-runs}
 
 -- ---- codes
 signed-most : (z : ℤ) → So (oneDigit z) → length (signed z) ≤ 2

@@ -9,7 +9,8 @@ use Rattle.text.specs.Decimal.{decimal, decimalIn}
 use Rattle.model.specs.declared.State.{State}
 use Rattle.model.specs.declared.Context.{Context}
 use Rattle.model.specs.declared.Call.{Call}
-use Rattle.model.specs.State.{fresh}
+use Rattle.model.specs.Row.{row, bestFrom}
+use Rattle.model.specs.State.{fresh, running}
 use Rattle.model.specs.Code.{number}
 use Rattle.model.specs.Call.{step, call}
 use Rattle.model.specs.Sound.{Sound}
@@ -17,7 +18,6 @@ use Rattle.soundness.proofs.Soundness.{fresh-is-sound, sound-stays-sound}
 use Rattle.tested.proofs.Same.{sound-exactly}
 use Rattle.walk.specs.Script.{Script, done, fault, next}
 use Rattle.walk.specs.Rows.{Row, rowsBy, rowsOf, signed, rowText, rowsText}
-use Rattle.runner.proofs.Steady.{nobody-runs}
 use Rattle.longest.proofs.Codes.{step-code, step-task, step-idle}
 
 -- ---- digits
@@ -64,6 +64,10 @@ unfolding rowsText rowsBy
 rows-most done s n k = omega arith
 rows-most (fault l) s n k = omega arith
 rows-most (next x c p) s n k = most-next s x c p k 0 n (omega (arith, step-code s x c, step-task s x c k)) (rows-most p (step s x c .state) (n + 1) (sound-stays-sound s x c k))
+
+nobody-runs : running fresh ≡ 0
+unfolding running bestFrom row
+nobody-runs = refl
 
 pub all-most : (p : Script) → Most 1 1 (rowsOf p)
 unfolding rowsText rowsBy

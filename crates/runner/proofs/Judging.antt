@@ -1,5 +1,5 @@
 -- What becomes of a file, from what the header, the lines and the buffer's length say. The kernel's step and its checked call give
--- the same rows, since every state that a list reaches from the fresh one is sound. It rests on Steady, soundness and tested.
+-- the same rows, since every state that a list reaches from the fresh one is sound. It rests on Answered, soundness and tested.
 use Prim.Native.Nat.{ℕ, _+_, _<_, _≤_}
 use mathlib.Core.Path.{_≡_, refl, ap, sym, _∙_}
 use mathlib.Core.Bool.{Bool, true, false, cond}
@@ -27,7 +27,7 @@ use Rattle.walk.specs.Rows.{Row, rowsBy, rowsText, textOf}
 use Rattle.runner.specs.Kept.{keptRows, keep, Plays}
 use Rattle.runner.specs.Outcome.{judged, ranOf}
 use Rattle.runner.proofs.Scripts.{rows-kept}
-use Rattle.runner.proofs.Steady.{all-steady}
+use Rattle.runner.proofs.Answered.{all-kept}
 
 -- ---- the step and the checked call
 same-rows : (p : Script) (s : State) → Sound s → rowsBy Calls.call s p ≡ rowsBy Calls.step s p
@@ -37,9 +37,9 @@ same-rows (fault l) s k = refl
 same-rows (next x c p) s k =
     rw (sound-exactly s .1 k) (ap (λ (rows : List Row). record { code = Calls.step s x c .code; running = Calls.step s x c .running } ∷ rows) (same-rows p (Calls.step s x c .state) (sound-stays-sound s x c k)))
 
-text-kept : (p : Script) → textOf p ≡ bytes "n,code,running\r\n" ++ keptRows 1 0 (map keep (rowsBy Calls.step fresh p))
+text-kept : (p : Script) → textOf p ≡ bytes "n,code,running\r\n" ++ keptRows 1 (map keep (rowsBy Calls.step fresh p))
 unfolding textOf
-text-kept p = rw (same-rows p fresh fresh-is-sound, rows-kept 1 0 (rowsBy Calls.step fresh p) (all-steady p))
+text-kept p = rw (same-rows p fresh fresh-is-sound, rows-kept 1 (rowsBy Calls.step fresh p) (all-kept p))
 
 -- ---- the outcome
 module _ (file : List ℕ) (room : ℕ) where
@@ -69,7 +69,7 @@ module _ (file : List ℕ) (room : ℕ) where
         none : faultOf (scriptIn wide h file 2) ≡ 0
         none = sym (p .fault) ∙ z
 
-        pub text : textOf (scriptOf file) ≡ bytes "n,code,running\r\n" ++ keptRows 1 0 (take (r .count) ks)
+        pub text : textOf (scriptOf file) ≡ bytes "n,code,running\r\n" ++ keptRows 1 (take (r .count) ks)
         text = rw (script, text-kept (scriptIn wide h file 2), p .rows none)
 
         pub size : r .total ≡ length (textOf (scriptOf file))
@@ -91,5 +91,5 @@ module _ (file : List ℕ) (room : ℕ) where
         pub few : length (take (r .count) ks) ≤ 3639
         few = omega (arith, length-take-le (r .count) ks kept, kept, p .places)
 
-        pub room-for : r .total ≤ room → 16 + length (keptRows 1 0 (take (r .count) ks)) ≤ room
-        room-for g = omega (arith, size ∙ ap length text, length-append (bytes "n,code,running\r\n") (keptRows 1 0 (take (r .count) ks)))
+        pub room-for : r .total ≤ room → 16 + length (keptRows 1 (take (r .count) ks)) ≤ room
+        room-for g = omega (arith, size ∙ ap length text, length-append (bytes "n,code,running\r\n") (keptRows 1 (take (r .count) ks)))

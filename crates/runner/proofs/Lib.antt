@@ -1,5 +1,5 @@
 pub mod Scripts
-pub mod Steady
+pub mod Answered
 pub mod Playing
 pub mod Writing
 pub mod Judging

@@ -101,7 +101,7 @@ module _ (wide : Bool) (file : List ℕ) (h : ℕ) (ks : List ℕ) (at n size ru
       onward : (at < at + m) × Walk wide file h (l .rows ++ (answerRow r ∷ [])) (at + m) (n + 1) (r .running) s′
       onward = walking.on wide file h (l .rows) at n run s (l .walk) more (Plays r (at + m)) s′ (played run at s (lineOf wide (drop at file)) x c m r s′ g i) r (at + m) refl
 
-      pub turns : (v k j : ℕ) → v ≡ slotOf (r .code) → k ≡ keptOf v (r .running) → (j ≡ length (keptText (n + 1) v (r .running))) × (j ≤ 20)
+      pub turns : (v k j : ℕ) → v ≡ slotOf (r .code) → k ≡ keptOf (r .code) (r .running) → (j ≡ length (keptText (n + 1) v (r .running))) × (j ≤ 20)
           → Left wide file h (set ks n k) (at + m) (n + 1) (size + j) (r .running) s′
       turns v k j f q w =
           let e : 1 + length (l .rows) ≡ n + 1 = omega (arith, l .walk .many) in
@@ -110,6 +110,6 @@ module _ (wide : Bool) (file : List ℕ) (h : ℕ) (ks : List ℕ) (at n size ru
             walk = onward .1;
             short = omega (arith, l .short, w .1);
             places = length-set ks n k ∙ l .places;
-            kept = rw (add-one n, take-suc-set ks n k (omega (arith, l .places, room)), l .kept, q, f) (map-snoc keep (l .rows) (answerRow r));
+            kept = rw (add-one n, take-suc-set ks n k (omega (arith, l .places, room)), l .kept, q) (map-snoc keep (l .rows) (answerRow r));
             total = omega (arith, l .total, w .0, length-snoc 1 (l .rows) (answerRow r), ap (λ (i : ℕ). length (rowText i (answerRow r))) e, ap length (row-kept (n + 1) (answerRow r)), ap (λ (u : ℕ). length (keptText (n + 1) u (r .running))) f);
           }

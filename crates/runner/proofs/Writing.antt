@@ -11,40 +11,40 @@ use Rattle.text.proofs.Stores.{sets-append, put-room, after-room}
 use Rattle.answers.specs.Slots.{keptText, slotIn, runsIn}
 use Rattle.runner.specs.Kept.{keptRows}
 
--- the rows from place i on, where `run` ran before them
-abbrev pub left : List ℕ → ℕ → ℕ → List ℕ
-left ks run i = keptRows (i + 1) run (drop i ks)
+-- the rows from place i on
+abbrev pub left : List ℕ → ℕ → List ℕ
+left ks i = keptRows (i + 1) (drop i ks)
 
-module _ (ks : List ℕ) (run i : ℕ) (h : i < length ks) (run′ v : ℕ) (er : run′ ≡ runsIn run (getD ks i 0)) (ev : v ≡ slotIn (getD ks i 0)) where
-  left-next : left ks run i ≡ keptText (i + 1) v run′ ++ left ks run′ (i + 1)
+module _ (ks : List ℕ) (i : ℕ) (h : i < length ks) (v run : ℕ) (ev : v ≡ slotIn (getD ks i 0)) (er : run ≡ runsIn (getD ks i 0)) where
+  left-next : left ks i ≡ keptText (i + 1) v run ++ left ks (i + 1)
   unfolding keptRows
   left-next = rw (er, ev, add-one i, drop-cons ks i 0 h)
 
   -- there is room for the next row
-  fits : (b : List ℕ) (out : ℕ) → out + length (left ks run i) ≤ length b → out + length (keptText (i + 1) v run′) ≤ length b
-  fits b out r = omega (arith, ap length left-next, length-append (keptText (i + 1) v run′) (left ks run′ (i + 1)))
+  fits : (b : List ℕ) (out : ℕ) → out + length (left ks i) ≤ length b → out + length (keptText (i + 1) v run) ≤ length b
+  fits b out r = omega (arith, ap length left-next, length-append (keptText (i + 1) v run) (left ks (i + 1)))
 
   -- and it is written
-  module _ (b b′ : List ℕ) (out out′ : ℕ) (r : out + length (left ks run i) ≤ length b) (e : out′ ≡ placeAfter b out (keptText (i + 1) v run′)) (f : b′ ≡ put b out (keptText (i + 1) v run′)) where
-    place : out′ ≡ out + length (keptText (i + 1) v run′)
-    place = e ∙ after-room b out (keptText (i + 1) v run′) (fits b out r)
+  module _ (b b′ : List ℕ) (out out′ : ℕ) (r : out + length (left ks i) ≤ length b) (e : out′ ≡ placeAfter b out (keptText (i + 1) v run)) (f : b′ ≡ put b out (keptText (i + 1) v run)) where
+    place : out′ ≡ out + length (keptText (i + 1) v run)
+    place = e ∙ after-room b out (keptText (i + 1) v run) (fits b out r)
 
-    stores : b′ ≡ sets b out (keptText (i + 1) v run′)
-    stores = f ∙ put-room b out (keptText (i + 1) v run′) (fits b out r)
+    stores : b′ ≡ sets b out (keptText (i + 1) v run)
+    stores = f ∙ put-room b out (keptText (i + 1) v run) (fits b out r)
 
-    pub room : out′ + length (left ks run′ (i + 1)) ≤ length b′
+    pub room : out′ + length (left ks (i + 1)) ≤ length b′
     room =
-        omega (arith, ap length left-next, length-append (keptText (i + 1) v run′) (left ks run′ (i + 1)), place, ap length stores, length-sets b out (keptText (i + 1) v run′))
+        omega (arith, ap length left-next, length-append (keptText (i + 1) v run) (left ks (i + 1)), place, ap length stores, length-sets b out (keptText (i + 1) v run))
 
-    pub goes : (w : List ℕ) → sets b out (left ks run i) ≡ w → sets b′ out′ (left ks run′ (i + 1)) ≡ w
+    pub goes : (w : List ℕ) → sets b out (left ks i) ≡ w → sets b′ out′ (left ks (i + 1)) ≡ w
     goes w g =
-        let k : sets b out (keptText (i + 1) v run′ ++ left ks run′ (i + 1)) ≡ w = rw left-next at g in
-        rw (stores, place) (sym (sets-append b out (keptText (i + 1) v run′) (left ks run′ (i + 1))) ∙ k)
+        let k : sets b out (keptText (i + 1) v run ++ left ks (i + 1)) ≡ w = rw left-next at g in
+        rw (stores, place) (sym (sets-append b out (keptText (i + 1) v run) (left ks (i + 1))) ∙ k)
 
 -- nothing is left
-pub over : (ks b : List ℕ) (run out i : ℕ) (w : List ℕ) → length ks ≤ i → sets b out (left ks run i) ≡ w → b ≡ w
+pub over : (ks b : List ℕ) (out i : ℕ) (w : List ℕ) → length ks ≤ i → sets b out (left ks i) ≡ w → b ≡ w
 unfolding keptRows
-over ks b run out i w h g = rw (drop-of-length-le ks {i = i} h) at g
+over ks b out i w h g = rw (drop-of-length-le ks {i = i} h) at g
 
 -- the header first
 pub headed : (b b₁ w rows : List ℕ) (out : ℕ) → 16 + length rows ≤ length b → out ≡ placeAfter b 0 (bytes "n,code,running\r\n") → b₁ ≡ put b 0 (bytes "n,code,running\r\n") → w ≡ sets b₁ out rows

@@ -6,18 +6,18 @@ use mathlib.Core.List.{List, [], _∷_, _++_, map}
 use lib.ListN.{length, take}
 use Rattle.model.specs.State.{fresh}
 use Rattle.model.specs.Call.{step}
-use Rattle.answers.specs.Slots.{slotOf, keptText, keptOf, slotIn, runsIn}
+use Rattle.answers.specs.Slots.{keptText, keptOf, slotIn, runsIn}
 use Rattle.runner.specs.declared.Played.{Played}
 use Rattle.walk.specs.Script.{Script, faultOf}
 use Rattle.walk.specs.Rows.{Row, rowsBy, rowsText}
 
--- the rows from call n on, of what is kept of them; `before` ran before the first
-unfoldable pub keptRows : ℕ → ℕ → List ℕ → List ℕ
-keptRows n before [] = []
-keptRows n before (k ∷ ks) = keptText n (slotIn k) (runsIn before k) ++ keptRows (n + 1) (runsIn before k) ks
+-- the rows from call n on, of what is kept of them
+unfoldable pub keptRows : ℕ → List ℕ → List ℕ
+keptRows n [] = []
+keptRows n (k ∷ ks) = keptText n (slotIn k) (runsIn k) ++ keptRows (n + 1) ks
 
 abbrev pub keep : Row → ℕ
-keep x = keptOf (slotOf (x .code)) (x .running)
+keep x = keptOf (x .code) (x .running)
 
 -- what playing a script leaves: its first fault, or all its answers and the length of their text
 pub record Plays (r : Played) (kept : List ℕ) (p : Script) : Type 0 where

@@ -81,7 +81,7 @@ fn play(file: &[u8], wide: bool, h: usize, kept: &mut Kept) -> Played
         let running = answer.running;
         run = running;
         let v = slot(code);
-        kept[n] = keep(v, running);
+        kept[n] = keep(code, running);
         n = n + 1;
         total = total + row_width(n as u32, v, running);
         at = at + next;
@@ -94,19 +94,17 @@ fn play(file: &[u8], wide: bool, h: usize, kept: &mut Kept) -> Played
 }
 
 // ---- the answer
-// The header and the kept rows, where there is room for them; before the first call nobody runs.
+// The header and the kept rows, where there is room for them.
 fn write(answer: &mut [u8], kept: &[u8])
-    requires { ⌜ (length (now kept) ≤ 3639) × (16 + length (keptRows 1 0 (now kept)) ≤ length (now answer)) ⌝ }
-    ensures { λ _. ⌜ now (answer .exit) ≡ sets (now (answer .entry)) 0 (bytes "n,code,running\r\n" ++ keptRows 1 0 (now (kept .entry))) ⌝ }
+    requires { ⌜ (length (now kept) ≤ 3639) × (16 + length (keptRows 1 (now kept)) ≤ length (now answer)) ⌝ }
+    ensures { λ _. ⌜ now (answer .exit) ≡ sets (now (answer .entry)) 0 (bytes "n,code,running\r\n" ++ keptRows 1 (now (kept .entry))) ⌝ }
 {
     let mut out = put_text(answer, 0, b"n,code,running\r\n");
-    let mut run: u8 = 0;
     let mut i: usize = 0;
     while i < kept.len() {
         let k = kept[i];
-        run = runs_kept(run, k);
         i += 1;
-        out = put_row(answer, out, i as u32, slot_kept(k), run);
+        out = put_row(answer, out, i as u32, slot_kept(k), runs_kept(k));
     }
 }
 

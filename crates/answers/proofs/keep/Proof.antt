@@ -1,27 +1,28 @@
--- `answers::keep` meets its contract: case by case.
-use borrow.Author.Tests.{lt-ltb, le-ltb, eq-eqb, ne-eqb}
+-- `answers::keep` meets its contract: a task's number, or one past them all.
+use native.Mathlib.Omega.{arith}
+use borrow.Author.Tests.{lt-ltb, le-ltb}
 use borrow.Author.Needs.{needs}
-use Rattle.answers.specs.Slots.{keptOf}
+use Rattle.answers.proofs.Kept.{base-most}
 use Rattle.answers.proofs.keep.Statement.{statement}
 use Rattle.answers.proofs.keep.Tie as tie
 
-returns : tie.Need-returns
-unfolding keptOf
-returns c = rw (lt-ltb _ _ (c .if1 .taken))
+base-requires : tie.Need-base-requires
+base-requires c κs = search needs
 
 add-result : tie.Need-add-result
-add-result c = search needs
+add-result c = record { fits = omega (arith, c .base .ensures, base-most (c .before .before .args .code)) }
 
-returns-2 : tie.Need-returns-2
-unfolding keptOf
-returns-2 c = rw (le-ltb _ _ (c .before .if1 .left), eq-eqb _ _ (c .if2 .taken))
+returns : tie.Need-returns
+returns c = rw (lt-ltb _ _ (c .before .if1 .taken), c .base .ensures)
+
+base-requires-2 : tie.Need-base-requires-2
+base-requires-2 c κs = search needs
 
 add-result-2 : tie.Need-add-result-2
-add-result-2 c = search needs
+add-result-2 c = record { fits = omega (arith, c .base2 .ensures, base-most (c .before .before .args .code)) }
 
-returns-3 : tie.Need-returns-3
-unfolding keptOf
-returns-3 c = rw (le-ltb _ _ (c .before .if1 .left), ne-eqb _ _ (c .if2 .left))
+returns-2 : tie.Need-returns-2
+returns-2 c = rw (le-ltb _ _ (c .before .if1 .left), c .base2 .ensures)
 
 pub keep-spec : {M : Type 1} → statement M
-keep-spec = tie.close (tie.spec returns add-result returns-2 add-result-2 returns-3)
+keep-spec = tie.close (tie.spec base-requires add-result returns base-requires-2 add-result-2 returns-2)

@@ -12,11 +12,11 @@ use Rattle.runner.proofs.write.Statement.{statement}
 use Rattle.runner.proofs.write.Tie as tie
 
 abbrev Inv-loop : tie.InvT-loop
-Inv-loop answer₀ kept out₀ run₀ i₀ answer out run i =
-    (i ≤ length kept) × (length answer ≡ length answer₀) × (out + length (left kept run i) ≤ length answer) × (sets answer out (left kept run i) ≡ sets answer₀ out₀ (keptRows 1 0 kept))
+Inv-loop answer₀ kept out₀ i₀ answer out i =
+    (i ≤ length kept) × (length answer ≡ length answer₀) × (out + length (left kept i) ≤ length answer) × (sets answer out (left kept i) ≡ sets answer₀ out₀ (keptRows 1 kept))
 
 abbrev μ-loop : tie.MeasureT-loop
-μ-loop answer₀ kept out₀ run₀ i₀ answer out run i = length kept - i
+μ-loop answer₀ kept out₀ i₀ answer out i = length kept - i
 
 slice-aggregate-put-text : tie.Need-slice-aggregate-put-text Inv-loop μ-loop
 slice-aggregate-put-text c = search needs
@@ -25,13 +25,10 @@ put-text-requires : tie.Need-put-text-requires Inv-loop μ-loop
 put-text-requires c κs = search needs
 
 loop-holds : tie.Need-loop-holds Inv-loop μ-loop
-loop-holds c = (omega arith, refl, law.header-room (c .before .before .before .before .before .before .before .args .answer .now) _ (keptRows 1 0 (c .before .before .before .before .before .before .before .args .kept .now)) _ (c .before .before .before .before .before .before .before .pre .1) (c .before .before .put-text .ensures .0) (c .before .before .put-text .ensures .1), refl)
+loop-holds c = (omega arith, refl, law.header-room (c .before .before .before .before .before .before .before .args .answer .now) _ (keptRows 1 (c .before .before .before .before .before .before .before .args .kept .now)) _ (c .before .before .before .before .before .before .before .pre .1) (c .before .before .put-text .ensures .0) (c .before .before .put-text .ensures .1), refl)
 
 shared-slice-read-k : tie.Need-shared-slice-read-k Inv-loop μ-loop
 shared-slice-read-k c = search needs
-
-runs-kept-requires : tie.Need-runs-kept-requires Inv-loop μ-loop
-runs-kept-requires c κs = search needs
 
 add-i : tie.Need-add-i Inv-loop μ-loop
 add-i c = search needs
@@ -41,6 +38,9 @@ cast-put-row c = search needs
 
 slot-kept-requires : tie.Need-slot-kept-requires Inv-loop μ-loop
 slot-kept-requires c κs = search needs
+
+runs-kept-requires : tie.Need-runs-kept-requires Inv-loop μ-loop
+runs-kept-requires c κs = search needs
 
 put-row-requires : tie.Need-put-row-requires Inv-loop μ-loop
 put-row-requires c κs = search needs
@@ -52,15 +52,15 @@ loop-again : tie.Need-loop-again Inv-loop μ-loop
 loop-again c = (
   omega arith,
   c .before .answer2 .given ∙ c .before .before .before .before .before .before .before .before .loop .inv .1,
-  law.room (c .before .before .before .before .before .before .before .before .before .before .before .before .before .before .before .before .args .kept .now) (c .before .before .before .before .before .before .before .before .loop .run) (c .before .before .before .before .before .before .before .before .loop .i) (c .before .before .before .before .before .before .before .loop-test .taken) _ _ (c .before .before .before .before .before .runs-kept .ensures) (c .before .before .before .slot-kept .ensures) _ _ _ _ (c .before .before .before .before .before .before .before .before .loop .inv .2) (c .before .before .put-row .ensures .0) (c .before .before .put-row .ensures .1),
-  law.goes (c .before .before .before .before .before .before .before .before .before .before .before .before .before .before .before .before .args .kept .now) (c .before .before .before .before .before .before .before .before .loop .run) (c .before .before .before .before .before .before .before .before .loop .i) (c .before .before .before .before .before .before .before .loop-test .taken) _ _ (c .before .before .before .before .before .runs-kept .ensures) (c .before .before .before .slot-kept .ensures) _ _ _ _ (c .before .before .before .before .before .before .before .before .loop .inv .2) (c .before .before .put-row .ensures .0) (c .before .before .put-row .ensures .1) _ (c .before .before .before .before .before .before .before .before .loop .inv .3),
+  law.room (c .before .before .before .before .before .before .before .before .before .before .before .before .before .before .before .before .args .kept .now) (c .before .before .before .before .before .before .before .before .loop .i) (c .before .before .before .before .before .before .before .loop-test .taken) _ _ (c .before .before .before .before .slot-kept .ensures) (c .before .before .before .runs-kept .ensures) _ _ _ _ (c .before .before .before .before .before .before .before .before .loop .inv .2) (c .before .before .put-row .ensures .0) (c .before .before .put-row .ensures .1),
+  law.goes (c .before .before .before .before .before .before .before .before .before .before .before .before .before .before .before .before .args .kept .now) (c .before .before .before .before .before .before .before .before .loop .i) (c .before .before .before .before .before .before .before .loop-test .taken) _ _ (c .before .before .before .before .slot-kept .ensures) (c .before .before .before .runs-kept .ensures) _ _ _ _ (c .before .before .before .before .before .before .before .before .loop .inv .2) (c .before .before .put-row .ensures .0) (c .before .before .put-row .ensures .1) _ (c .before .before .before .before .before .before .before .before .loop .inv .3),
 )
 
 same-length : tie.Need-same-length Inv-loop μ-loop
 same-length c = search needs
 
 returns : tie.Need-returns Inv-loop μ-loop
-returns c = law.headed (c .before .before .before .before .before .before .before .before .before .args .answer .now) _ _ (keptRows 1 0 (c .before .before .before .before .before .before .before .before .before .args .kept .now)) _ (c .before .before .before .before .before .before .before .before .before .pre .1) (c .before .before .before .before .put-text .ensures .0) (c .before .before .before .before .put-text .ensures .1) (law.over (c .before .before .before .before .before .before .before .before .before .args .kept .now) _ _ _ (c .before .loop .i) _ (c .loop-test .left) (c .before .loop .inv .3))
+returns c = law.headed (c .before .before .before .before .before .before .before .before .before .args .answer .now) _ _ (keptRows 1 (c .before .before .before .before .before .before .before .before .before .args .kept .now)) _ (c .before .before .before .before .before .before .before .before .before .pre .1) (c .before .before .before .before .put-text .ensures .0) (c .before .before .before .before .put-text .ensures .1) (law.over (c .before .before .before .before .before .before .before .before .before .args .kept .now) _ _ (c .before .loop .i) _ (c .loop-test .left) (c .before .loop .inv .3))
 
 pub write-spec : {M : Type 1} → statement M
 write-spec =
@@ -72,10 +72,10 @@ write-spec =
     put-text-requires
     loop-holds
     shared-slice-read-k
-    runs-kept-requires
     add-i
     cast-put-row
     slot-kept-requires
+    runs-kept-requires
     put-row-requires
     loop-less
     loop-again
