@@ -1,7 +1,7 @@
 -- A line or header that more bytes follow has a line end, so it has at least 18 bytes; a wide line has 19 and its header 20.
 -- It rests on the definitions of specs/, and on the least lengths of Long.
 use Prim.Native.Nat.{ℕ, _+_, _*_, _<_, _≤_}
-use mathlib.Core.Bool.{Bool, true, false, cond}
+use mathlib.Core.Bool.{Bool, true, false}
 use mathlib.Core.List.{List}
 use native.Mathlib.Omega.{arith}
 use lib.Dec.{eqb}

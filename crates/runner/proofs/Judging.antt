@@ -2,25 +2,22 @@
 -- the same rows, since every state that a list reaches from the fresh one is sound. It rests on Answered, soundness and tested.
 use Prim.Native.Nat.{ℕ, _+_, _<_, _≤_}
 use mathlib.Core.Path.{_≡_, refl, ap, sym, _∙_}
-use mathlib.Core.Bool.{Bool, true, false, cond}
-use mathlib.Core.List.{List, [], _∷_, _++_, map}
+use mathlib.Core.Bool.{Bool}
+use mathlib.Core.List.{List, _∷_, _++_, map}
 use native.Mathlib.Omega.{arith}
 use lib.ListN.{length, take, length-append, length-take, length-map}
 use lib.Seq.{length-take-le}
-use borrow.Author.Tests.{eq-eqb, ne-eqb, lt-ltb, le-ltb}
+use borrow.Author.Tests.{ne-eqb, lt-ltb, le-ltb}
 use Rattle.text.specs.Bytes.{bytes}
 use Rattle.model.specs.declared.State.{State}
 use Rattle.model.specs.State.{fresh}
-use Rattle.model.specs.Test.{isSound}
 use Rattle.model.specs.Sound.{Sound}
 use Rattle.model.specs.Call as Calls
 use Rattle.soundness.proofs.Soundness.{sound-stays-sound, fresh-is-sound}
 use Rattle.tested.proofs.Same.{sound-exactly}
-use Rattle.lines.specs.declared.line.Header.{Header}
 use Rattle.lines.specs.declared.line.Header.the-variants.{Ends, NoHeader}
 use Rattle.lines.specs.Lines.{headerOf}
 use Rattle.runner.specs.declared.Played.{Played}
-use Rattle.runner.specs.declared.Ran.{Ran}
 use Rattle.runner.specs.declared.Ran.the-variants.{Wrote, TooLong, Unreadable, Short}
 use Rattle.walk.specs.Script.{Script, done, fault, next, scriptIn, scriptOf, faultOf}
 use Rattle.walk.specs.Rows.{Row, rowsBy, rowsText, textOf}

@@ -1,13 +1,13 @@
 -- What the runner keeps on its walk along a list: the rows so far, a number each, and the length of their text.
 -- It rests on Walking in walk.
-use Prim.Native.Nat.{ℕ, zero, suc, _+_, _*_, _<_, _≤_}
+use Prim.Native.Nat.{ℕ, suc, _+_, _*_, _<_, _≤_}
 use mathlib.Core.Path.{_≡_, refl, ap, sym, _∙_}
 use mathlib.Core.Bool.{Bool}
-use mathlib.Core.List.{List, [], _∷_, _++_, map, append-nil, append-assoc}
+use mathlib.Core.List.{List, [], _∷_, _++_, map, append-nil}
 use native.Mathlib.Numerals.{add-one}
 use native.Mathlib.Nat.{add-zero, zero-add}
 use native.Mathlib.Omega.{arith}
-use lib.ListN.{length, set, take, drop, length-append, length-set, length-map, replicate}
+use lib.ListN.{length, set, take, drop, length-append, length-set, replicate}
 use lib.Seq.{take-suc-set}
 use Rattle.model.specs.declared.State.{State}
 use Rattle.model.specs.declared.Context.{Context}
@@ -18,7 +18,7 @@ use Rattle.step.specs.Answer.{answerOf}
 use Rattle.tables.specs.Lent.{stateIn}
 use Rattle.lines.specs.declared.line.Line.the-variants.{Reads, Unreadable}
 use Rattle.lines.specs.Lines.{lineOf}
-use Rattle.lines.proofs.Long.{extra, LineHas, line-has}
+use Rattle.lines.proofs.Long.{extra, line-has}
 use Rattle.walk.specs.declared.Turn.the-variants.{Plays, Faults}
 use Rattle.walk.specs.Script.{scriptIn}
 use Rattle.walk.specs.Rows.{Row, rowText, rowsText}

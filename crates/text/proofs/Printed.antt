@@ -1,7 +1,7 @@
 -- The theorems of specs/Statement: a text that is put into a buffer stands in its places, and every other byte stays; two printers are refuted.
 -- They rest on Stores and on the digits' count.
 use Prim.Native.Nat.{ℕ, zero, suc, _+_, _<_, _≤_}
-use mathlib.Core.Path.{_≡_, refl, sym, _∙_}
+use mathlib.Core.Path.{_≡_, refl, _∙_}
 use mathlib.Core.Logic.{inl, inr}
 use mathlib.Core.Bool.{Bool, true, false, cond}
 use mathlib.Core.List.{List, [], _∷_}

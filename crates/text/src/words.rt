@@ -3,7 +3,7 @@
 ghost use mathlib.Core.Path.{_≡_};
 ghost use mathlib.Core.List.{[], _∷_};
 ghost use Prim.Native.Nat.{_+_};
-ghost use lib.ListN.{getD, length};
+ghost use lib.ListN.{getD};
 ghost use lib.Dec.{leb};
 ghost use Rattle.text.specs.Bytes.{begins, put, placeAfter};
 

@@ -1,17 +1,15 @@
 -- A walk along a list: the rows so far and those of what is left are the rows of the whole, whoever walks it and whatever he keeps.
 -- One law for each moment of the loop: before the first line, a line that reads, one that doesn't, the end. Rests on Scripts.
-use Prim.Native.Nat.{ℕ, zero, suc, _+_, _*_, _<_, _≤_}
+use Prim.Native.Nat.{ℕ, _+_, _*_, _<_, _≤_}
 use mathlib.Core.Path.{_≡_, refl, ap, sym, _∙_}
 use mathlib.Core.Bool.{Bool}
 use mathlib.Core.List.{List, [], _∷_, _++_, append-nil, append-assoc}
 use native.Mathlib.Omega.{arith}
 use lib.ListN.{length, drop, length-append, length-drop, replicate}
 use Rattle.model.specs.declared.State.{State}
-use Rattle.model.specs.declared.Answer.{Answer}
 use Rattle.model.specs.declared.Context.{Context}
 use Rattle.model.specs.declared.Call.{Call}
 use Rattle.model.specs.Row.{row, bestFrom}
-use Rattle.model.specs.Task.{noTask}
 use Rattle.model.specs.State.{fresh, running}
 use Rattle.model.specs.Call.{stepFrom, step}
 use Rattle.step.specs.declared.Stepped.{Stepped}
@@ -24,12 +22,12 @@ use Rattle.tables.specs.Lent.{stateIn}
 use Rattle.lines.specs.declared.line.Line.{Line}
 use Rattle.lines.specs.declared.line.Line.the-variants.{Reads, Unreadable}
 use Rattle.lines.specs.Lines.{lineOf}
-use Rattle.lines.proofs.Within.{LineIn, line-in}
+use Rattle.lines.proofs.Within.{line-in}
 use Rattle.lines.proofs.Long.{extra}
-use Rattle.lines.proofs.Ended.{Before, LineEnds, line-ends}
+use Rattle.lines.proofs.Ended.{Before, line-ends}
 use Rattle.walk.specs.declared.Turn.{Turn}
 use Rattle.walk.specs.declared.Turn.the-variants.{Plays, Faults}
-use Rattle.walk.specs.Script.{Script, done, fault, next, scriptIn, faultOf}
+use Rattle.walk.specs.Script.{Script, done, next, scriptIn, faultOf}
 use Rattle.walk.specs.Rows.{Row, rowsBy}
 use Rattle.walk.specs.Turn.{Turned, turnIn, steppedOf, turnOf}
 use Rattle.walk.proofs.Scripts.{script-drop, script-end, script-fault, script-next}
