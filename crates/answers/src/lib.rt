@@ -107,7 +107,7 @@ fn base(code: Code) -> u8
     }
 }
 
-// One byte for a code and a task.
+// One byte for a code and a task. A number above 24 is no task's, and is kept as 24.
 pub fn keep(code: Code, running: u8) -> u8
     ensures { λ r. ⌜ r ≡ keptOf code running ⌝ }
 {

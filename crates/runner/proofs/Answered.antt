@@ -1,7 +1,5 @@
 -- What a call of a list answers: a code of one digit, and a task's number or 0. So its rows can be kept in a number each.
--- It rests on the codes that a step answers (ways), on who runs in a sound state, and on refusals changing nothing (soundness).
-use mathlib.Core.Path.{_≡_, ap}
-use mathlib.Core.Bool.{true}
+-- It rests on the codes that a step answers (ways), and on who runs in a sound state (soundness).
 use Prim.Native.Nat.{_≤_}
 use lib.Dec.{T as So}
 use native.Mathlib.Omega.{arith}
@@ -12,33 +10,28 @@ use Rattle.model.specs.declared.Call.{Call}
 use Rattle.model.specs.State.{fresh, running}
 use Rattle.model.specs.declared.Code.{Code}
 use Rattle.model.specs.declared.Code.the-variants.{NoErr, Pending, Overflow, WContext, WState, Timeout, WrongParam, IlUse, NoExs, Dlt, Released, Unsound}
-use Rattle.model.specs.Code.{number, isRefusal}
+use Rattle.model.specs.Code.{number}
 use Rattle.model.specs.Call.{step}
 use Rattle.model.specs.Sound.{Sound}
 use Rattle.ways.proofs.Done.{oneDigit}
 use Rattle.ways.proofs.Ways.{step-digit}
-use Rattle.soundness.proofs.Soundness.{fresh-is-sound, sound-stays-sound, refused-is-unchanged}
+use Rattle.soundness.proofs.Soundness.{fresh-is-sound, sound-stays-sound}
 use Rattle.soundness.proofs.Running.{runner}
 use Rattle.walk.specs.Script.{Script, done, fault, next}
 use Rattle.walk.specs.Rows.{rowsBy}
 use Rattle.answers.specs.Slots.{baseOf}
 use Rattle.runner.proofs.Scripts.{Kept}
 
-pub runs-most : (s : State) → Sound s → running s ≤ 24
+runs-most : (s : State) → Sound s → running s ≤ 24
 runs-most s k = go (decLe 1 (running s))
   where
     go : Dec (1 ≤ running s) → running s ≤ 24
     go (yes h) = runner s k h .top
     go (no h) = omega arith
 
-module _ (s : State) (x : Context) (c : Call) where
-  pub step-still : isRefusal (step s x c .code) ≡ true → step s x c .running ≡ running s
-  unfolding step
-  step-still e = ap running (refused-is-unchanged s x c e)
-
-  pub step-runs : Sound s → step s x c .running ≤ 24
-  unfolding step
-  step-runs k = runs-most (step s x c .state) (sound-stays-sound s x c k)
+pub step-runs : (s : State) (x : Context) (c : Call) → Sound s → step s x c .running ≤ 24
+unfolding step
+step-runs s x c k = runs-most (step s x c .state) (sound-stays-sound s x c k)
 
 -- ---- the rows of a script
 one-digit : (c : Code) → So (oneDigit (number c)) → baseOf c ≤ 200
