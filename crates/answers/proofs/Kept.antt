@@ -1,4 +1,4 @@
--- What is kept of a row is a byte, and says the row again: a code of one digit, and a task's number.
+-- What is kept of a row says the row again: a code that a call of a list answers, and a task's number.
 -- It rests on the definitions of specs/.
 use mathlib.Core.Path.{_≡_, refl}
 use Prim.Native.Nat.{ℕ, _+_, _*_, _/_, _≤_, _<_}
@@ -41,18 +41,3 @@ kept-says NoExs run r h = let t = says NoExs run 0 refl h in record { slot = t .
 kept-says Dlt run r h = absurd (omega arith)
 kept-says Released run r h = absurd (omega arith)
 kept-says Unsound run r h = absurd (omega arith)
-
--- every one begins at 225 at most, so that what is kept is a byte
-pub base-most : (c : Code) → baseOf c ≤ 225
-base-most NoErr = omega arith
-base-most Pending = omega arith
-base-most Overflow = omega arith
-base-most WContext = omega arith
-base-most WState = omega arith
-base-most Timeout = omega arith
-base-most WrongParam = omega arith
-base-most IlUse = omega arith
-base-most NoExs = omega arith
-base-most Dlt = omega arith
-base-most Released = omega arith
-base-most Unsound = omega arith

@@ -89,7 +89,7 @@ pub fn put_row(buf: &mut [u8], at: usize, n: u32, v: u8, running: u8) -> usize
 // ---- what is kept of a row
 // Where a code's 25 numbers begin.
 fn base(code: Code) -> u8
-    ensures { λ r. ⌜ r ≡ baseOf code ⌝ }
+    ensures { λ r. ⌜ (r ≡ baseOf code) × (r ≤ 225) ⌝ }
 {
     match code {
         Code::NoErr => 175,
