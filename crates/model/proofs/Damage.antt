@@ -14,21 +14,31 @@ use Rattle.model.specs.declared.Code.the-variants.{Unsound}
 use Rattle.model.specs.Row
 use Rattle.model.specs.Row.{row, withRow}
 use Rattle.model.specs.Flag
+use Rattle.model.specs.DataQueue
+use Rattle.model.specs.DataQueue.{noElements, put}
 use Rattle.model.specs.Task as Record
 use Rattle.model.specs.Task.{noTask, ofActive, ofCode, ofHanded, ofSpare, with, withWait, asleep, onSemaphore, onFlag, dormant, activated, waiting, withPriority, withSuspended, withWakeups, withActivations, withRemaining}
 use Rattle.model.specs.State
-use Rattle.model.specs.State.{fresh, task, moved, counted, flagged, sliced, marked, recharged}
+use Rattle.model.specs.Task.{toSend, toReceive}
+use Rattle.model.specs.State.{fresh, task, moved, counted, flagged, stocked, sized, sliced, marked, recharged}
 use Rattle.model.specs.Plan
 use Rattle.model.specs.Test
 use Rattle.model.specs.Call as Calls
 
 -- 1 runs at level 5, 2 waits on semaphore 3 (maximum 7) for 9 ticks, 4 sleeps, 6 is dormant, 7 waits for both bits 6 of flag 2 (SINGLE, bits 3),
--- 10 and 11 are the tasks of level 12; levels 5 and 12 have slice 4, and 1 and 10 charge 2; 1 and 2 have a time of entry
+-- 10 and 11 are the tasks of level 12; levels 5 and 12 have slice 4, and 1 and 10 charge 2; 1 and 2 have a time of entry; 12 waits to send 0 to data
+-- queue 2 (capacity 2, elements 8 and 0), 13 waits to receive from data queue 3 (capacity 0), data queue 4 (capacity 16) has the element 7
+-- the places of a data queue that has these two elements
+holding : ℕ → ℕ → List ℕ
+holding e f = put (put noElements 0 e) 1 f
+
 pub sound : State
 sound =
-    marked 2 0 4294967295 (recharged 10 2 (marked 1 2 7 (sliced 12 4 (sliced 5 4 (flagged 2 2 3 (counted 3 0 7
+    sized 4 17 (stocked 4 1 (holding 7 0) (sized 3 1 (sized 2 3 (stocked 2 2 (holding 8 0)
+    (moved 13 (waiting (activated (dormant 9)) (toReceive 3 9)) (moved 12 (waiting (activated (dormant 9)) (toSend 2 0 9))
+    (marked 2 0 4294967295 (recharged 10 2 (marked 1 2 7 (sliced 12 4 (sliced 5 4 (flagged 2 2 3 (counted 3 0 7
     (moved 11 (activated (dormant 12)) (moved 10 (activated (dormant 12)) (moved 7 (waiting (activated (dormant 9)) (onFlag 2 6 1 9)) (moved 6 (dormant 8) (moved 4 (waiting (activated (dormant 30)) (asleep 4294967295))
-    (moved 2 (waiting (activated (dormant 5)) (onSemaphore 3 9)) (moved 1 (activated (dormant 5)) fresh)))))))))))))
+    (moved 2 (waiting (activated (dormant 5)) (onSemaphore 3 9)) (moved 1 (activated (dormant 5)) fresh))))))))))))))))))))
 
 -- the state with another record, or another number at a place of a queue, and nothing else changed
 recorded : ℕ → Task → State
@@ -42,7 +52,7 @@ queued m i t = record { tasks = sound .tasks; levels = sound .levels; waits = wi
 
 -- a table that is cut short, and a queue that is
 tabled : List ℕ → State
-tabled ns = record { tasks = sound .tasks; levels = sound .levels; waits = sound .waits; numbers = record { slices = sound .numbers .slices; counts = ns; maxima = sound .numbers .maxima; attributes = sound .numbers .attributes; bits = sound .numbers .bits; time = 0 } }
+tabled ns = record { tasks = sound .tasks; levels = sound .levels; waits = sound .waits; numbers = record { slices = sound .numbers .slices; counts = ns; maxima = sound .numbers .maxima; attributes = sound .numbers .attributes; bits = sound .numbers .bits; time = 0; capacities = sound .numbers .capacities; taken = sound .numbers .taken; elements = sound .numbers .elements } }
 
 shortened : ℕ → State
 shortened l = record { tasks = sound .tasks; levels = withRow (sound .levels) l (take 23 (row (sound .levels) l)); waits = sound .waits; numbers = sound .numbers }
@@ -82,6 +92,12 @@ idler = dormant 8
 
 abbrev asker : Task
 asker = waiting (activated (dormant 9)) (onFlag 2 6 1 9)
+
+abbrev sender : Task
+sender = waiting (activated (dormant 9)) (toSend 2 0 9)
+
+abbrev receiver : Task
+receiver = waiting (activated (dormant 9)) (toReceive 3 9)
 
 pub damaged : List State
 damaged =
@@ -124,15 +140,28 @@ damaged =
     ∷ flagged 2 2 6 sound ∷ flagged 2 2 14 sound ∷ moved 8 (waiting (activated (dormant 9)) (onFlag 2 8 0 9)) sound ∷ flagged 2 0 0 sound ∷ moved 7 (withObject asker 3 9) sound ∷ moved 7 (withObject asker 4 2) sound
     -- a flag not created has no bits; a created one has attributes 0, 1 or 3
     ∷ flagged 3 0 1 sound ∷ flagged 3 3 0 sound ∷ flagged 3 5 0 sound
+    -- a data queue lists exactly the tasks waiting on it, once each
+    ∷ queued 22 0 0 ∷ queued 22 1 12 ∷ queued 21 0 12 ∷ queued 23 0 12 ∷ queued 22 1 13 ∷ recorded 12 (withObject sender 4 3) ∷ recorded 13 (withObject receiver 5 2) ∷ recorded 13 (withObject receiver 4 9)
+    -- no waiting receiver beside a stored element or a waiting sender, no waiting sender beside free room
+    ∷ stocked 3 1 (holding 1 0) sound ∷ stocked 2 1 (holding 8 0) sound ∷ sized 2 4 sound ∷ sized 3 2 (recorded 13 (withObject receiver 4 3)) ∷ recorded 12 (withObject sender 5 2)
+    ∷ moved 14 (waiting (activated (dormant 9)) (toReceive 2 9)) sound ∷ moved 14 (waiting (activated (dormant 9)) (toReceive 4 9)) sound ∷ moved 14 (waiting (activated (dormant 9)) (toSend 4 1 9)) sound
+    ∷ moved 14 (waiting (activated (dormant 9)) (toSend 3 1 9)) sound ∷ moved 14 (waiting (activated (dormant 9)) (toSend 16 1 9)) sound
+    -- whoever waits, waits on a created data queue; one not created has no elements; elements are within the capacity, which is at most 16
+    ∷ sized 3 0 sound ∷ sized 2 0 sound ∷ stocked 5 1 (holding 1 0) sound ∷ sized 4 18 sound ∷ sized 4 1 sound ∷ stocked 4 17 (holding 7 0) sound ∷ sized 4 2 (stocked 4 2 (holding 7 1) sound)
+    -- places past the last element hold 0
+    ∷ stocked 4 1 (holding 7 1) sound ∷ stocked 4 0 (holding 7 0) sound ∷ stocked 5 0 (put noElements 15 1) sound ∷ stocked 2 2 (put (holding 8 0) 2 1) sound
+    -- an element that waits to be sent stands in the sender's record alone, and no mode beside it
+    ∷ recorded 13 (withAsk receiver 1 0 0) ∷ recorded 12 (withAsk sender 0 1 0) ∷ recorded 13 (withAsk receiver 0 1 0) ∷ recorded 12 (withAsk sender 0 0 1) ∷ recorded 13 (withAsk receiver 0 0 1)
     -- the unused bytes hold 0, of a created task and of one that is not
     ∷ recorded 1 (with ofSpare 1 runner) ∷ recorded 2 (withUnused waiter 255) ∷ recorded 1 (withUnused runner 1) ∷ recorded 9 (with ofSpare 1 noTask) ∷ recorded 9 (withUnused noTask 1)
     -- the last level, task, semaphore, flag and queue are looked at too
     ∷ sliced 30 1001 sound ∷ levelled 30 0 1 ∷ recorded 24 (withPriority noTask 1) ∷ recharged 24 1 (moved 24 (dormant 8) sound) ∷ counted 12 8 7 sound ∷ flagged 8 0 1 sound ∷ flagged 8 1 0 (queued 20 0 2)
     ∷ moved 24 (waiting (activated (dormant 9)) (onFlag 4 1 0 9)) (flagged 4 1 1 sound)
+    ∷ sized 8 18 sound ∷ stocked 8 0 (put noElements 15 1) sound ∷ queued 28 0 2 ∷ moved 24 (waiting (activated (dormant 9)) (toReceive 4 9)) sound
     -- the tables have their places, and each queue has its own
     ∷ tabled (0 ∷ []) ∷ shortened 5 ∷ narrowed 3
     -- place 0 of every table is unused
-    ∷ recorded 0 (dormant 5) ∷ sliced 0 1 sound ∷ counted 0 0 1 sound ∷ flagged 0 1 0 sound ∷ flagged 0 0 1 sound
+    ∷ recorded 0 (dormant 5) ∷ sliced 0 1 sound ∷ counted 0 0 1 sound ∷ flagged 0 1 0 sound ∷ flagged 0 0 1 sound ∷ sized 0 1 sound ∷ stocked 0 1 noElements sound ∷ stocked 0 0 (put noElements 0 1) sound
     ∷ []
 
 pub noneIsSound : List State → Bool
@@ -140,7 +169,7 @@ noneIsSound [] = true
 noneIsSound (s ∷ rest) = not (Test.isSound s) && noneIsSound rest
 
 pub tells : So (Test.isSound sound && noneIsSound damaged)
-unfolding sound damaged recorded levelled queued tabled shortened narrowed withCode withObject withActive withAsk withUnused noneIsSound State.moved State.counted State.flagged State.sliced State.marked Row.place Row.gap Row.joined Row.left Row.row Row.withRow Row.leftRow Row.joinedRow Row.relisted Record.levelOf Record.rowOf Flag.isFlagAttributes Flag.isMet Flag.flagRow Test.below Test.everyRow Test.occ Test.zeros Test.listsOnly Test.isFiled Test.listsExactly Test.isTaskSound Test.isChargeSound Test.isCountSound Test.isFlagSound Test.isUnmet Test.isSound Plan.within
+unfolding sound damaged recorded levelled queued tabled shortened narrowed withCode withObject withActive withAsk withUnused noneIsSound State.moved State.counted State.flagged State.stocked State.sized holding DataQueue.placesOf DataQueue.put DataQueue.queueRow Test.isStockSound Test.isUnserved State.sliced State.marked Row.place Row.gap Row.joined Row.left Row.row Row.withRow Row.leftRow Row.joinedRow Row.relisted Record.levelOf Record.rowOf Flag.isFlagAttributes Flag.isMet Flag.flagRow Test.below Test.everyRow Test.occ Test.zeros Test.listsOnly Test.isFiled Test.listsExactly Test.isTaskSound Test.isChargeSound Test.isCountSound Test.isFlagSound Test.isUnmet Test.isSound Plan.within
 tells = tt
 
 -- any state that fails the test gets UNSOUND and task 0, and comes back as it was

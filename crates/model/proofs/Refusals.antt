@@ -8,8 +8,9 @@ use lib.IntN.{ℤ}
 use lib.ListN.{length}
 use Rattle.model.specs.declared.Call.{Call}
 use Rattle.model.specs.declared.Call.the-variants.{TaskCreate, TaskDelete, TaskActivate, TaskIactivate, TaskExit, TaskTerminate, TaskSuspend, TaskResume, TaskSleep, TaskWakeup, TaskIwakeup, TaskReleaseWait, TaskIreleaseWait, TaskChangePriority}
-use Rattle.model.specs.declared.Call.the-variants.{SysTsliceTicks, TickIntProcessing, SemCreate, SemDelete, SemSignal, SemIsignal, SemAcquire, SemPolling, SemIpolling, OnFlag, ReadyTicks}
+use Rattle.model.specs.declared.Call.the-variants.{SysTsliceTicks, TickIntProcessing, SemCreate, SemDelete, SemSignal, SemIsignal, SemAcquire, SemPolling, SemIpolling, OnFlag, ReadyTicks, OnQueue}
 use Rattle.model.specs.declared.FlagService.the-variants.{Create, Delete, Set, Iset, Clear, Iclear, Wait, WaitPolling, Iwait}
+use Rattle.model.specs.declared.QueueService.the-variants.{Create as QueueCreate, Delete as QueueDelete, Send, SendPolling, IsendPolling, Receive, ReceivePolling, Ireceive}
 use Rattle.model.specs.Services.{services, serviceNumber}
 use Rattle.model.specs.Code.{minus}
 use Rattle.model.specs.Bench.{Ask, Refusal, Step, refuses, Case, allHold}
@@ -50,12 +51,17 @@ onSemaphore f busy = row (among 12 f) busy []
 abbrev onFlag : (ℕ → Call) → List Refusal → Row
 onFlag f busy = row (among 8 f) busy []
 
+abbrev onQueue : (ℕ → Call) → List Refusal → Row
+onQueue f busy = row (among 8 f) busy []
+
 -- ---- the two states
 -- nobody runs: 2 is dormant, 3 sleeps, 4 waits on semaphore 2 (0 of 2) with both counts at 1, 5 waits on flag 2 (SINGLE, bits 1) for 2 and is
--- suspended, 6 is suspended; semaphore 3 is full (1 of 1), 4 is empty (0 of 1), flag 3 (neither attribute) has bits 5
+-- suspended, 6 is suspended; semaphore 3 is full (1 of 1), 4 is empty (0 of 1), flag 3 (neither attribute) has bits 5;
+-- data queue 2 (capacity 1) has the element 0, 3 has capacity 0, and 4 (capacity 16) is empty
 quiet : List Step
 quiet =
     task (SemCreate 2 0 2) ok 0 ∷ task (SemCreate 3 1 1) ok 0 ∷ task (SemCreate 4 0 1) ok 0 ∷ task (OnFlag 2 (Create 1 1)) ok 0 ∷ task (OnFlag 3 (Create 0 5)) ok 0
+    ∷ task (OnQueue 2 (QueueCreate 1)) ok 0 ∷ task (OnQueue 2 (SendPolling 0)) ok 0 ∷ task (OnQueue 3 (QueueCreate 0)) ok 0 ∷ task (OnQueue 4 (QueueCreate 16)) ok 0
     ∷ task (TaskCreate 2 5 0) ok 0 ∷ task (TaskCreate 3 5 1) ok 3 ∷ task (TaskSleep 9) pending 0
     ∷ task (TaskCreate 4 5 1) ok 4 ∷ task (TaskWakeup 4) ok 4 ∷ task (TaskActivate 4) ok 4 ∷ task (SemAcquire 2 9) pending 0
     ∷ task (TaskCreate 5 5 1) ok 5 ∷ task (OnFlag 2 (Wait 2 0 9)) pending 0 ∷ task (TaskSuspend 5) ok 0 ∷ task (TaskCreate 6 5 1) ok 6 ∷ task (TaskSuspend 6) ok 0 ∷ []
@@ -176,6 +182,34 @@ rows =
     -- 33 ready_ticks: it is dormant
     ∷ onTask (λ t. ReadyTicks t)
     (each (minus 2) (I (ReadyTicks 7) ∷ I (ReadyTicks 3) ∷ I (ReadyTicks 2) ∷ T (ReadyTicks 2) ∷ []) ∷ [])
+    -- 34 tn_queue_create: a capacity above 16
+    ∷ row
+    (wrong (OnQueue 0 (QueueCreate 1) ∷ OnQueue 9 (QueueCreate 1) ∷ OnQueue 1 (QueueCreate 17) ∷ OnQueue 1 (QueueCreate 4294967295) ∷ OnQueue 2 (QueueCreate 1) ∷ OnQueue 3 (QueueCreate 0) ∷ OnQueue 2 (QueueCreate 17) ∷ []) ∷ [])
+    (each (minus 2) (I (OnQueue 1 (QueueCreate 0)) ∷ I (OnQueue 1 (QueueCreate 1)) ∷ I (OnQueue 8 (QueueCreate 16)) ∷ []) ∷ []) []
+    -- 35 tn_queue_delete
+    ∷ onQueue (λ q. OnQueue q QueueDelete) (each (minus 2) (I (OnQueue 2 QueueDelete) ∷ I (OnQueue 3 QueueDelete) ∷ []) ∷ [])
+    -- 36 tn_queue_send: nobody runs, also where there would be no wait
+    ∷ row
+    (wrong (OnQueue 4 (Send 5 0) ∷ OnQueue 2 (Send 5 0) ∷ OnQueue 1 (Send 5 0) ∷ []) ∷ missing (OnQueue 8 (Send 4294967295 4294967295) ∷ []) ∷ among 8 (λ q. OnQueue q (Send 0 1)))
+    (each (minus 2) (I (OnQueue 4 (Send 5 1)) ∷ I (OnQueue 2 (Send 0 1)) ∷ I (OnQueue 3 (Send 5 4294967295)) ∷ []) ∷ [])
+    (each (minus 2) (T (OnQueue 4 (Send 5 1)) ∷ T (OnQueue 2 (Send 0 1)) ∷ T (OnQueue 3 (Send 5 4294967295)) ∷ []) ∷ [])
+    -- 37 tn_queue_send_polling: the queue is full, also one without any place
+    ∷ onQueue (λ q. OnQueue q (SendPolling 0))
+    (each (minus 2) (I (OnQueue 4 (SendPolling 5)) ∷ I (OnQueue 2 (SendPolling 5)) ∷ []) ∷ each (minus 4) (T (OnQueue 2 (SendPolling 5)) ∷ T (OnQueue 2 (SendPolling 0)) ∷ T (OnQueue 3 (SendPolling 5)) ∷ []) ∷ [])
+    -- 38 tn_queue_isend_polling: the same
+    ∷ onQueue (λ q. OnQueue q (IsendPolling 0))
+    (each (minus 2) (T (OnQueue 4 (IsendPolling 5)) ∷ T (OnQueue 2 (IsendPolling 5)) ∷ []) ∷ each (minus 4) (I (OnQueue 2 (IsendPolling 5)) ∷ I (OnQueue 2 (IsendPolling 0)) ∷ I (OnQueue 3 (IsendPolling 5)) ∷ []) ∷ [])
+    -- 39 tn_queue_receive: nobody runs, also where there would be no wait
+    ∷ row
+    (wrong (OnQueue 4 (Receive 0) ∷ OnQueue 2 (Receive 0) ∷ OnQueue 1 (Receive 0) ∷ []) ∷ missing (OnQueue 8 (Receive 4294967295) ∷ []) ∷ among 8 (λ q. OnQueue q (Receive 1)))
+    (each (minus 2) (I (OnQueue 4 (Receive 1)) ∷ I (OnQueue 2 (Receive 1)) ∷ I (OnQueue 3 (Receive 4294967295)) ∷ []) ∷ [])
+    (each (minus 2) (T (OnQueue 4 (Receive 1)) ∷ T (OnQueue 2 (Receive 1)) ∷ T (OnQueue 3 (Receive 4294967295)) ∷ []) ∷ [])
+    -- 40 tn_queue_receive_polling: the queue is empty
+    ∷ onQueue (λ q. OnQueue q ReceivePolling)
+    (each (minus 2) (I (OnQueue 4 ReceivePolling) ∷ I (OnQueue 2 ReceivePolling) ∷ []) ∷ each (minus 4) (T (OnQueue 4 ReceivePolling) ∷ T (OnQueue 3 ReceivePolling) ∷ []) ∷ [])
+    -- 41 tn_queue_ireceive: the same
+    ∷ onQueue (λ q. OnQueue q Ireceive)
+    (each (minus 2) (T (OnQueue 4 Ireceive) ∷ T (OnQueue 2 Ireceive) ∷ []) ∷ each (minus 4) (I (OnQueue 4 Ireceive) ∷ I (OnQueue 3 Ireceive) ∷ []) ∷ [])
     ∷ []
 
 -- ---- the rows hold

@@ -8,6 +8,7 @@ use Rattle.model.specs.declared.Call.{Call}
 use Rattle.model.specs.declared.Call.the-variants.{TickIntProcessing}
 use Rattle.model.specs.Row
 use Rattle.model.specs.Flag
+use Rattle.model.specs.DataQueue
 use Rattle.model.specs.Task
 use Rattle.model.specs.State
 use Rattle.model.specs.State.{fresh}
@@ -58,10 +59,10 @@ each v qs = record { answer = v; calls = qs }
 
 -- the whole table of services: a proof that computes through its rows names this
 unfoldable pub table : ℕ
-unfolding Services.service Services.services Services.tasks Services.system Services.semaphores Services.flags Services.own
+unfolding Services.service Services.services Services.tasks Services.system Services.semaphores Services.flags Services.own Services.queues
 table = 0
 
 -- what the rows compute through
 unfoldable pub opened : ℕ
-unfolding Bench.eachHolds holds allRefused areRefused listing Calls.call Calls.step Calls.planned Calls.plan Calls.flagPlan Effect.carried Effect.ticked Effect.lapsed Effect.charged Effect.chargedIn Effect.deleted Effect.toldFlag Effect.toldAll Effect.stopped State.running State.moved State.counted State.flagged State.sliced State.marked State.rotated Row.place Row.gap Row.joined Row.left Row.turned Row.row Row.withRow Row.leftRow Row.joinedRow Row.relisted Row.bestFrom Task.levelOf Task.rowOf Task.since Task.aged Task.told Flag.isFlagAttributes Flag.isMet Flag.withBits Flag.withoutBits Flag.bitsLeft Flag.flagRow Test.below Test.everyRow Test.occ Test.zeros Test.listsOnly Test.isFiled Test.listsExactly Test.isTaskSound Test.isChargeSound Test.isCountSound Test.isFlagSound Test.isUnmet Test.isSound table Services.isMine Plan.within Service.create Service.delete Service.activate Service.exit Service.terminate Service.suspend Service.resume Service.sleep Service.wakeup Service.releaseWait Service.wanted Service.changePriority Service.readyTicks Service.tsliceTicks Service.tick Service.semCreate Service.semDelete Service.signal Service.acquire Service.polling Service.flagCreate Service.flagDelete Service.meetsFirst Service.flagSet Service.flagClear Service.isOccupied Service.taken Service.flagWait Service.flagPoll
+unfolding Bench.eachHolds holds allRefused areRefused listing Calls.call Calls.step Calls.planned Calls.plan Calls.flagPlan Calls.queuePlan Effect.carried Effect.ticked Effect.lapsed Effect.charged Effect.chargedIn Effect.deleted Effect.toldFlag Effect.toldAll Effect.stopped Effect.stored Effect.taken Effect.refilled Effect.removed State.running State.moved State.counted State.flagged State.stocked State.sized State.sliced State.marked State.rotated Row.place Row.gap Row.joined Row.left Row.turned Row.row Row.withRow Row.leftRow Row.joinedRow Row.relisted Row.bestFrom Task.levelOf Task.rowOf Task.since Task.aged Task.told Flag.isFlagAttributes Flag.isMet Flag.withBits Flag.withoutBits Flag.bitsLeft Flag.flagRow DataQueue.placesOf DataQueue.put DataQueue.pulled DataQueue.queueRow Test.below Test.everyRow Test.occ Test.zeros Test.listsOnly Test.isFiled Test.listsExactly Test.isTaskSound Test.isChargeSound Test.isCountSound Test.isFlagSound Test.isUnmet Test.isStockSound Test.isUnserved Test.isSound table Services.isMine Plan.within Service.create Service.delete Service.activate Service.exit Service.terminate Service.suspend Service.resume Service.sleep Service.wakeup Service.releaseWait Service.wanted Service.changePriority Service.readyTicks Service.tsliceTicks Service.tick Service.semCreate Service.semDelete Service.signal Service.acquire Service.polling Service.flagCreate Service.flagDelete Service.meetsFirst Service.flagSet Service.flagClear Service.isOccupied Service.taken Service.flagWait Service.flagPoll Service.queueCreate Service.queueDelete Service.isSide Service.sent Service.queueSend Service.queueSendPoll Service.received Service.queueReceive Service.queueReceivePoll
 opened = 0

@@ -9,15 +9,18 @@ use Rattle.model.specs.declared.Context.{Context}
 use Rattle.model.specs.declared.Context.the-variants.{T, I}
 use Rattle.model.specs.declared.Call.{Call}
 use Rattle.model.specs.declared.Call.the-variants.{TaskCreate, TaskDelete, TaskActivate, TaskIactivate, TaskExit, TaskTerminate, TaskSuspend, TaskResume, TaskSleep, TaskWakeup, TaskIwakeup, TaskReleaseWait, TaskIreleaseWait, TaskChangePriority}
-use Rattle.model.specs.declared.Call.the-variants.{SysTsliceTicks, TickIntProcessing, SemCreate, SemDelete, SemSignal, SemIsignal, SemAcquire, SemPolling, SemIpolling, OnFlag, ReadyTicks}
+use Rattle.model.specs.declared.Call.the-variants.{SysTsliceTicks, TickIntProcessing, SemCreate, SemDelete, SemSignal, SemIsignal, SemAcquire, SemPolling, SemIpolling, OnFlag, ReadyTicks, OnQueue}
 use Rattle.model.specs.declared.FlagService.{FlagService}
 use Rattle.model.specs.declared.FlagService.the-variants.{Create, Delete, Set, Iset, Clear, Iclear, Wait, WaitPolling, Iwait}
+use Rattle.model.specs.declared.QueueService.{QueueService}
+use Rattle.model.specs.declared.QueueService.the-variants.{Create as QueueCreate, Delete as QueueDelete, Send, SendPolling, IsendPolling, Receive, ReceivePolling, Ireceive}
 
 -- what a number of a call is
 pub data Field : Type 0 where
   theTask thePriority theOption theLevel theSlice theTimeout : Field
   theSemaphore theStart theMaximum : Field
   theFlag theAttributes theBits thePattern theMode : Field
+  theQueue theCapacity theElement : Field
 
 pub record Service : Type 0 where
   pub name : String
@@ -91,8 +94,21 @@ flags =
 unfoldable pub own : List Service
 own = ownService "ready_ticks" T (theTask ∷ []) (λ a b c d. ReadyTicks a) ∷ []
 
+-- those on data queues, behind all that had a number before
+unfoldable pub queues : List Service
+queues =
+    aService "tn_queue_create" T (theQueue ∷ theCapacity ∷ []) (λ a b c d. OnQueue a (QueueCreate b))
+    ∷ aService "tn_queue_delete" T (theQueue ∷ []) (λ a b c d. OnQueue a QueueDelete)
+    ∷ aService "tn_queue_send" T (theQueue ∷ theElement ∷ theTimeout ∷ []) (λ a b c d. OnQueue a (Send b c))
+    ∷ aService "tn_queue_send_polling" T (theQueue ∷ theElement ∷ []) (λ a b c d. OnQueue a (SendPolling b))
+    ∷ aService "tn_queue_isend_polling" I (theQueue ∷ theElement ∷ []) (λ a b c d. OnQueue a (IsendPolling b))
+    ∷ aService "tn_queue_receive" T (theQueue ∷ theTimeout ∷ []) (λ a b c d. OnQueue a (Receive b))
+    ∷ aService "tn_queue_receive_polling" T (theQueue ∷ []) (λ a b c d. OnQueue a ReceivePolling)
+    ∷ aService "tn_queue_ireceive" I (theQueue ∷ []) (λ a b c d. OnQueue a Ireceive)
+    ∷ []
+
 unfoldable pub services : List Service
-services = tasks ++ (system ++ (semaphores ++ (flags ++ own)))
+services = tasks ++ (system ++ (semaphores ++ (flags ++ (own ++ queues))))
 
 abbrev none : Service
 none = ownService "" I [] (λ a b c d. TickIntProcessing)
@@ -113,6 +129,16 @@ flagServiceNumber (Iclear b) = 29
 flagServiceNumber (Wait p m d) = 30
 flagServiceNumber (WaitPolling p m) = 31
 flagServiceNumber (Iwait p m) = 32
+
+abbrev pub queueServiceNumber : QueueService → ℕ
+queueServiceNumber (QueueCreate c) = 34
+queueServiceNumber QueueDelete = 35
+queueServiceNumber (Send e d) = 36
+queueServiceNumber (SendPolling e) = 37
+queueServiceNumber (IsendPolling e) = 38
+queueServiceNumber (Receive d) = 39
+queueServiceNumber ReceivePolling = 40
+queueServiceNumber Ireceive = 41
 
 abbrev pub serviceNumber : Call → ℕ
 serviceNumber (TaskCreate t p o) = 1
@@ -140,6 +166,7 @@ serviceNumber (SemPolling m) = 22
 serviceNumber (SemIpolling m) = 23
 serviceNumber (OnFlag f e) = flagServiceNumber e
 serviceNumber (ReadyTicks t) = 33
+serviceNumber (OnQueue q e) = queueServiceNumber e
 
 -- ---- the context test: a call comes from the context that its service belongs to
 abbrev pub same : Context → Context → Bool
