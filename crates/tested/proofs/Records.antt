@@ -1,6 +1,6 @@
 -- The test of one task's record says that the record is sound; and a sound record's level is a row of the table of levels.
 -- Rests on Says.
-use mathlib.Core.Path.{_≡_, refl, sym, ap, subst}
+use mathlib.Core.Path.{_≡_, sym, ap, subst}
 use mathlib.Core.Bool.{Bool, true, false, cond, _&&_}
 use mathlib.Core.Logic.{_⊎_, inl, inr, ⊎-elim}
 use Prim.Native.Nat.{ℕ, _≤_}
@@ -8,9 +8,9 @@ use native.Mathlib.Omega.{arith}
 use lib.Dec.{T as So, eqb}
 use Rattle.model.specs.declared.Wait.{Wait}
 use Rattle.model.specs.declared.Task.{Task}
-use Rattle.model.specs.Task.{noWait, noTask, nothing, aSleep, aSemaphore, aFlag, aSend, aReceive, isQueueWait, isRunnable, levelOf}
+use Rattle.model.specs.Task.{noWait, noTask, nothing, aSleep, aSemaphore, aFlag, aSend, isQueueWait, isRunnable, levelOf}
 use Rattle.model.specs.Plan.{isSemaphore, isFlag, isQueue}
-use Rattle.model.specs.Test.{isNoWait, isBlank, isWaitCode, isResting, isWaitSound, isAskSound, isSpareSound, isTaskSound}
+use Rattle.model.specs.Test.{isNoWait, isBlank, isWaitCode, isResting, isWaitSound, isAskSound, isTaskSound}
 use Rattle.model.specs.Sound.{SoundTask}
 use Rattle.laws.proofs.Number.{same?}
 use Rattle.laws.proofs.Record.{OnQueue, sound-none}
