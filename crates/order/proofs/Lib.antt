@@ -5,3 +5,4 @@ pub mod Moving
 pub mod Kept
 pub mod Sides
 pub mod Stock
+pub mod Ordered

@@ -69,6 +69,10 @@ pub once-rest : (u : ℕ) (q : List ℕ) → once (u ∷ q) ≡ true → (has u 
 unfolding once
 once-rest u q o = let b = both (not (has u q)) (once q) o in (not-true (has u q) (b .0), b .1)
 
+pub keeping-nil : (p : ℕ → Bool) → keeping p [] ≡ []
+unfolding keeping
+keeping-nil p = refl
+
 pub keeping-append : (p : ℕ → Bool) (l m : List (ℕ × ℕ)) → keeping p (l ++ m) ≡ keeping p l ++ keeping p m
 unfolding keeping
 keeping-append p [] m = refl

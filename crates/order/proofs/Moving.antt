@@ -69,10 +69,14 @@ pub record Shrinks (r : ℕ) (s s′ : State) : Type 0 where
   pub row : queue s′ r ≡ staying p (queue s r)
   pub asked : (t : ℕ) → has t (queue s′ r) ≡ true → asks (task s′ t) ≡ asks (task s t)
 
-pub shrinks-none : (r : ℕ) (s : State) → Shrinks r s s
-shrinks-none r s = record { p = λ _. true; row = sym (staying-all (λ _. true) (queue s r) (λ _ _. refl)); asked = λ _ _. refl }
+-- where the table of waits is as it was, and so is what the records ask, all stay
+pub shrinks-like : (r : ℕ) (s s′ : State) → s′ .waits ≡ s .waits → ((t : ℕ) → asks (task s′ t) ≡ asks (task s t)) → Shrinks r s s′
+shrinks-like r s s′ e same = record { p = λ _. true; row = rw e (sym (staying-all (λ _. true) (queue s r) (λ _ _. refl))); asked = λ t _. same t }
 
-shrinks-twice : (r : ℕ) (s s′ s″ : State) → Shrinks r s s′ → Shrinks r s′ s″ → Shrinks r s s″
+shrinks-none : (r : ℕ) (s : State) → Shrinks r s s
+shrinks-none r s = shrinks-like r s s refl (λ _. refl)
+
+pub shrinks-twice : (r : ℕ) (s s′ s″ : State) → Shrinks r s s′ → Shrinks r s′ s″ → Shrinks r s s″
 shrinks-twice r s s′ s″ h g = record {
   p = λ t. h .p t && g .p t;
   row = g .row ∙ rw (h .row) (staying-twice (h .p) (g .p) (queue s r));
@@ -175,14 +179,14 @@ module _ (r : ℕ) (low : 1 ≤ r) (top : r < 29) (s : State) (g : Good s) where
 pub record Leaves (x x′ : Task) : Type 0 where
   pub stays : 1 ≤ rowOf x′ → (rowOf x′ ≡ rowOf x) × (asks x′ ≡ asks x)
 
-leaves-ended : (x : Task) (v b : ℕ) → Leaves x (ended x v b)
+pub leaves-ended : (x : Task) (v b : ℕ) → Leaves x (ended x v b)
 unfolding rowOf
 leaves-ended x v b = record { stays = λ h. absurd (not-suc-le-zero h) }
 
-leaves-same : (x : Task) → Leaves x x
+pub leaves-same : (x : Task) → Leaves x x
 leaves-same x = record { stays = λ _. (refl, refl) }
 
-leaves-dormant : (x : Task) (p : ℕ) → Leaves x (dormant p) × Leaves x (activated (dormant p))
+pub leaves-dormant : (x : Task) (p : ℕ) → Leaves x (dormant p) × Leaves x (activated (dormant p))
 unfolding rowOf
 leaves-dormant x p = (record { stays = λ h. absurd (not-suc-le-zero h) }, record { stays = λ h. absurd (not-suc-le-zero h) })
 

@@ -172,6 +172,18 @@ module _ (q : ℕ) (low : 1 ≤ q) (top : q ≤ 8) where
     pub sendless-beside : Side s aReceive q → senders s q ≡ []
     sendless-beside side = no-senders s (sound-good k) (λ t e y. omega (arith, alike aReceive side t e, y))
 
+    -- nobody waits to send beside free room
+    pub sendless-room : takenOf s q + 1 < capacityOf s q → senders s q ≡ []
+    sendless-room room = no-senders s (sound-good k) (λ t e y. omega (arith, k .queues .sends q t low top (at-row t e) y, room))
+
+    -- nor to receive beside an element
+    pub stockless : Side s aReceive q → storedIn s q ≡ []
+    stockless side = rw (k .queues .receives q (firstAt s q) low top (at-row (firstAt s q) (first-here (side .0))) (side .1))
+
+    -- a queue that does not exist has nobody waiting, and nothing stored
+    pub unmade-sides : capacityOf s q ≡ 0 → (senders s q ≡ []) × (storedIn s q ≡ [])
+    unmade-sides e = (no-senders s (sound-good k) (λ t w _. omega (arith, k .queues .waited q t low top (at-row t w), e)), rw (k .queues .none q e))
+
     rest : List ℕ
     rest = listing (drop 1 (row (s .waits) (queueRow q)))
 

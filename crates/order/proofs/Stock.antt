@@ -17,14 +17,14 @@ use Rattle.order.specs.Statements.{storedIn}
 
 module _ (s : State) (k : Sound s) (q : ℕ) (top : q ≤ 8) where
   -- ---- another queue
-  module _ (n : ℕ) (most : n ≤ 8) (apart : n ≡ q → ⊥) where
-    pub stored-else : (m : ℕ) (ps : List ℕ) → length ps ≡ 16 → storedIn (stocked n m ps s) q ≡ storedIn s q
+  module _ (z : State) (same : z .numbers ≡ s .numbers) (n : ℕ) (most : n ≤ 8) (apart : n ≡ q → ⊥) where
+    pub stored-else : (m : ℕ) (ps : List ℕ) → length ps ≡ 16 → storedIn (stocked n m ps z) q ≡ storedIn s q
     unfolding stocked
-    stored-else m ps size = rw (getD-set-other (s .numbers .taken) n q m 0 (λ e. apart (sym e)), places-other (s .numbers .elements) (k .queues .elements#) n ps most size q top (λ e. apart (sym e)))
+    stored-else m ps size = rw (same, getD-set-other (s .numbers .taken) n q m 0 (λ e. apart (sym e)), places-other (s .numbers .elements) (k .queues .elements#) n ps most size q top (λ e. apart (sym e)))
 
-    pub capacity-else : (c : ℕ) → capacityOf (sized n c s) q ≡ capacityOf s q
+    pub capacity-else : (c : ℕ) → capacityOf (sized n c z) q ≡ capacityOf s q
     unfolding sized
-    capacity-else c = getD-set-other (s .numbers .capacities) n q c 0 (λ e. apart (sym e))
+    capacity-else c = rw same (getD-set-other (s .numbers .capacities) n q c 0 (λ e. apart (sym e)))
 
   -- ---- q itself
   stored-now : (n : ℕ) (ps : List ℕ) → length ps ≡ 16 → storedIn (stocked q n ps s) q ≡ take n ps
