@@ -5,4 +5,7 @@ pub mod Moving
 pub mod Kept
 pub mod Sides
 pub mod Stock
+pub mod Others
+pub mod Own
 pub mod Ordered
+pub mod InOrder
