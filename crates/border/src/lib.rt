@@ -10,8 +10,8 @@ use model::State;
 use services::calls::Asked;
 use services::calls::call_of;
 
-// A call's answer in plain numbers: the paper's code, the task that then runs, the bits that a flag wait or poll got at once or the ticks that
-// were asked for, the next state.
+// A call's answer in plain numbers: the paper's code, the task that then runs, the bits or the element that a wait or poll got at once or the
+// ticks that were asked for, the next state.
 #[repr(C)]
 pub struct Reply {
     pub code: i32,

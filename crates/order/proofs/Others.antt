@@ -191,10 +191,12 @@ module _ {q : ℕ} {s : State} {l : Ledger} (held : Held q s l) where
         e = numbers-told Deleted (waiters s (queueRow n)) s
 
   pub changing : {u : ℕ} {x : Task} → Named s u → Change s u x → (c : Code) (t v : ℕ) → KeptIn q (moved u x s) (withGivenUp q s (answer c t v (moved u x s)) l)
-  changing {u} {x} n d = moving u x (named .0) (named .1) (record { stays = λ h. ⊎-elim
-      (λ (z : (rowOf x ≡ 0) × (rowOf (task s u) ≡ 0)). absurd (omega (arith, h, z .0)))
-      (λ (z : WaitsAs x (task s u)). (z .0, pair (z .1) (z .2)))
-      (change-waits (held .sound) d) })
+  changing {u} {x} n d = moving u x (named .0) (named .1) (record {
+    stays = λ h. ⊎-elim
+        (λ (z : (rowOf x ≡ 0) × (rowOf (task s u) ≡ 0)). absurd (omega (arith, h, z .0)))
+        (λ (z : WaitsAs x (task s u)). (z .0, pair (z .1) (z .2)))
+        (change-waits (held .sound) d);
+  })
     where
       named : (1 ≤ u) × (u ≤ 24)
       named = named-in (held .sound) n

@@ -48,6 +48,8 @@ pages =
     -- a refused send is none, nor is one to another queue
     ∷ after (byTask (OnQueue 3 (SendPolling 23))) (0 ∷ 21 ∷ 0 ∷ 22 ∷ []) (0 ∷ 21 ∷ []) (0 ∷ 22 ∷ []) ∷ after (byTask (OnQueue 4 (Create 2))) (0 ∷ 21 ∷ 0 ∷ 22 ∷ []) (0 ∷ 21 ∷ []) (0 ∷ 22 ∷ [])
     ∷ after (byTask (OnQueue 4 (Send 24 9))) (0 ∷ 21 ∷ 0 ∷ 22 ∷ []) (0 ∷ 21 ∷ []) (0 ∷ 22 ∷ [])
+    -- the older of the two that are stored comes out
+    ∷ after (byInterrupt (OnQueue 3 Ireceive)) (0 ∷ 21 ∷ 0 ∷ 22 ∷ []) (0 ∷ 21 ∷ 0 ∷ []) (22 ∷ [])
     -- a deletion ends the ledger and a creation begins it anew; what was accepted before is owed to nobody
     ∷ after (byTask (OnQueue 3 Delete)) [] [] [] ∷ after (byTask (OnQueue 3 (Create 1))) [] [] [] ∷ after (byTask (OnQueue 3 (Send 7 9))) (7 ∷ []) [] (7 ∷ []) ∷ after (byTask (OnQueue 3 (Send 8 9))) (7 ∷ 8 ∷ []) [] (7 ∷ 8 ∷ [])
     ∷ [])

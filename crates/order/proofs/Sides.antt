@@ -88,8 +88,11 @@ module _ (q : ℕ) (low : 1 ≤ q) (top : q ≤ 8) where
 
   -- ---- who stands in the row waits there
   in-queue : (s : State) → Good s → (t : ℕ) → has t (queue s (queueRow q)) ≡ true → (1 ≤ t) × (rowOf (task s t) ≡ queueRow q)
-  in-queue s g t y = (some, ⊎-elim (λ (e : rowOf (task s t) ≡ queueRow q). e)
-      (λ (off : rowOf (task s t) ≡ queueRow q → ⊥). absurd (false≢true (sym (absent (queueRow q) row-low row-top s g t some off) ∙ y))) (same? (rowOf (task s t)) (queueRow q)))
+  in-queue s g t y = (
+    some,
+    ⊎-elim (λ (e : rowOf (task s t) ≡ queueRow q). e)
+        (λ (off : rowOf (task s t) ≡ queueRow q → ⊥). absurd (false≢true (sym (absent (queueRow q) row-low row-top s g t some off) ∙ y))) (same? (rowOf (task s t)) (queueRow q)),
+  )
     where
       not-0 : t ≡ 0 → ⊥
       not-0 e = false≢true (sym (listing-tasks (row (s .waits) (queueRow q))) ∙ rw e at y)
