@@ -11,7 +11,7 @@ use borrow.Author.Tests.{eq-eqb, ne-eqb, eqb-true}
 use Rattle.text.specs.Bytes.{bytes, begins}
 use Rattle.text.proofs.Begins.{begins-at}
 use Rattle.model.specs.Test.{implies}
-use Rattle.model.specs.Services.{Service, tasks, semaphores, flags, services}
+use Rattle.model.specs.Services.{Service, tasks, semaphores, flags, queues, services}
 use Rattle.model.proofs.Words.{table}
 use Rattle.services.specs.declared.names.Name.{Name}
 use Rattle.services.specs.declared.names.Name.the-variants.{Known, Unknown}
@@ -61,7 +61,7 @@ by-key f early (x ∷ xs) t k s =
 at-key : {r : Name} (f : List ℕ → ℕ) → Early f → (xs : List Service) → So (long xs) → (k : ℕ) (s : List ℕ) {m : ℕ} → m ≡ f s → r ≡ keyed f xs k m s → r ≡ nameIn xs k s
 at-key f early xs t k s e p = p ∙ ap (λ (h : ℕ). keyed f xs k h s) e ∙ by-key f early xs t k s
 
--- ---- the keys that the reader goes by: a family's by one byte, a task's or a flag's service by two, a semaphore's by one
+-- ---- the keys that the reader goes by: a family's by one byte, a task's, a flag's or a data queue's service by two, a semaphore's by one
 
 abbrev pub familyKey : List ℕ → ℕ
 familyKey s = getD s 4 0
@@ -74,6 +74,9 @@ semaphoreKey s = getD s 8 0
 
 abbrev pub flagKey : List ℕ → ℕ
 flagKey s = getD s 10 0 + getD s 12 0
+
+abbrev pub queueKey : List ℕ → ℕ
+queueKey s = getD s 9 0 + getD s 10 0
 
 early-bytes : (i j : ℕ) → i < 13 → j < 13 → Early (λ s. getD s i 0 + getD s j 0)
 early-bytes i j h k s t e g = rw (early-byte i h s t e g, early-byte j k s t e g)
@@ -94,6 +97,10 @@ pub at-flag : {r : Name} (s : List ℕ) {a b m : ℕ} → a ≡ getD s 10 0 → 
 unfolding flags long label
 at-flag s p o e q = at-key flagKey (early-bytes 10 12 (omega arith) (omega arith)) flags tt 24 s (sym e ∙ (cc)) q
 
+pub at-queue : {r : Name} (s : List ℕ) {a b m : ℕ} → a ≡ getD s 9 0 → b ≡ getD s 10 0 → a + b ≡ m → r ≡ keyed queueKey queues 34 m s → r ≡ nameIn queues 34 s
+unfolding queues long label
+at-queue s p o e q = at-key queueKey (early-bytes 9 10 (omega arith) (omega arith)) queues tt 34 s (sym e ∙ (cc)) q
+
 -- the key of every row that lists hold is one of those
 covered : (List ℕ → ℕ) → List ℕ → List Service → Bool
 covered f ks [] = true
@@ -111,7 +118,7 @@ no-key f ks (x ∷ xs) t k h s r =
     go false g ih = ih
 
 abbrev pub familyKeys : List ℕ
-familyKeys = 97 ∷ 121 ∷ 105 ∷ 101 ∷ 118 ∷ []
+familyKeys = 97 ∷ 121 ∷ 105 ∷ 101 ∷ 118 ∷ 117 ∷ []
 
 abbrev pub taskKeys : List ℕ
 taskKeys = 196 ∷ 201 ∷ 202 ∷ 221 ∷ 217 ∷ 225 ∷ 227 ∷ 231 ∷ 216 ∷ 220 ∷ 212 ∷ 215 ∷ 213 ∷ 209 ∷ []
@@ -121,6 +128,9 @@ semaphoreKeys = 114 ∷ 101 ∷ 105 ∷ 115 ∷ 99 ∷ 111 ∷ 112 ∷ []
 
 abbrev pub flagKeys : List ℕ
 flagKeys = 211 ∷ 202 ∷ 145 ∷ 231 ∷ 205 ∷ 200 ∷ 213 ∷ 224 ∷ []
+
+abbrev pub queueKeys : List ℕ
+queueKeys = 213 ∷ 201 ∷ 216 ∷ 220 ∷ 215 ∷ 219 ∷ []
 
 pub no-family : (s : List ℕ) (h : ℕ) → h ≡ getD s 4 0 → Rest familyKeys h Unit → Unknown ≡ nameOf s
 unfolding table label has covered
@@ -137,6 +147,10 @@ no-semaphore s h p r = at-semaphore s p refl (no-key semaphoreKey semaphoreKeys 
 pub no-flag : (s : List ℕ) (a b : ℕ) → a ≡ getD s 10 0 → b ≡ getD s 12 0 → Rest flagKeys (a + b) Unit → Unknown ≡ nameIn flags 24 s
 unfolding flags label has covered
 no-flag s a b p o r = at-flag s p o refl (no-key flagKey flagKeys flags tt 24 (a + b) s r)
+
+pub no-queue : (s : List ℕ) (a b : ℕ) → a ≡ getD s 9 0 → b ≡ getD s 10 0 → Rest queueKeys (a + b) Unit → Unknown ≡ nameIn queues 34 s
+unfolding queues label has covered
+no-queue s a b p o r = at-queue s p o refl (no-key queueKey queueKeys queues tt 34 (a + b) s r)
 
 -- no list holds `ready_ticks`: its r (114) is the first byte of no name that lists hold
 pub no-list-holds-ready-ticks : (s : List ℕ) → begins s (bytes "ready_ticks,") ≡ true → nameOf s ≡ Unknown

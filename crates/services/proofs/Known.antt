@@ -1,6 +1,6 @@
 -- A name that is known has the number of a service, and such a number makes its call.
 -- It rests on the table of services, through its size and its range of numbers.
-use Prim.Native.Nat.{ℕ, _+_, _≤_}
+use Prim.Native.Nat.{ℕ, suc, _+_, _≤_}
 use mathlib.Core.Path.{_≡_, _∙_}
 use mathlib.Core.Bool.{true, cond}
 use mathlib.Core.List.{List, [], _∷_}
@@ -16,18 +16,18 @@ use Rattle.services.specs.declared.calls.Asked.the-variants.{Named, Noth
 use Rattle.services.specs.declared.names.Name.{Name}
 use Rattle.services.specs.declared.names.Name.the-variants.{Known, Unknown}
 use Rattle.services.specs.Names.{label, begun, nameIn, nameOf}
-use Rattle.services.specs.Calls.{isService, asked}
+use Rattle.services.specs.Calls.{howMany, isService, asked}
 use Rattle.services.proofs.Table.{table-size}
 
 abbrev pub OfService : Name → Type 0
 OfService (Known k i) = isService k ≡ true
 OfService Unknown = Unit
 
-in-range : (k : ℕ) → 1 ≤ k → k ≤ 33 → isService k ≡ true
+in-range : (k : ℕ) → 1 ≤ k → k ≤ howMany → isService k ≡ true
 unfolding within
-in-range k h g = rw (le-leb 1 k h, le-leb k 33 g)
+in-range k h g = rw (le-leb 1 k h, le-leb k howMany g)
 
-name-among : (xs : List Service) (k : ℕ) (s : List ℕ) → 1 ≤ k → k + length xs ≤ 34 → OfService (nameIn xs k s)
+name-among : (xs : List Service) (k : ℕ) (s : List ℕ) → 1 ≤ k → k + length xs ≤ suc howMany → OfService (nameIn xs k s)
 unfolding nameIn
 name-among [] k s h g = tt
 name-among (x ∷ xs) k s h g =

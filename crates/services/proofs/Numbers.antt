@@ -9,7 +9,7 @@ use lib.Dec.{T as So, leb, eqb, eqb→eq}
 use lib.ListN.{length, getD}
 use borrow.Author.Tests.{eqb-true, eqb-false, lt-leb, le-leb}
 use Rattle.model.specs.Plan.{within}
-use Rattle.services.specs.Calls.{isService}
+use Rattle.services.specs.Calls.{howMany, isService}
 
 pub both-left : (a b : Bool) → So (a && b) → So a
 both-left true b t = tt
@@ -52,15 +52,15 @@ above (suc n) i x N r h =
     let m = out (upFrom (suc i) n) x (N × (x ≡ i → ⊥)) r .1 in
     omega (arith, above n (suc i) x (N × (x ≡ i → ⊥)) r (omega arith))
 
-pub past : (x : ℕ) → 34 ≤ x → isService x ≡ false
+pub past : (x : ℕ) → howMany < x → isService x ≡ false
 unfolding within
-past x h = rw (le-leb 1 x (omega arith), lt-leb x 33 (omega arith))
+past x h = rw (le-leb 1 x (omega arith), lt-leb x howMany (omega arith))
 
--- none of the 33 numbers of services
-pub no-service : (x : ℕ) → Rest (upFrom 1 33) x Unit → isService x ≡ false
+-- none of the numbers of services
+pub no-service : (x : ℕ) → Rest (upFrom 1 howMany) x Unit → isService x ≡ false
 unfolding within
 no-service zero r = refl
-no-service (suc x) r = past (suc x) (above 33 1 (suc x) Unit r (omega arith))
+no-service (suc x) r = past (suc x) (above howMany 1 (suc x) Unit r (omega arith))
 
 -- ---- a test at each number below n
 unfoldable pub below : ℕ → (ℕ → Bool) → Bool

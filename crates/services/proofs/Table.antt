@@ -13,7 +13,7 @@ use Rattle.model.specs.Plan.{within}
 use Rattle.model.specs.Services.{Service, services, service, serviceNumber}
 use Rattle.model.proofs.Words.{table}
 use Rattle.services.specs.Names.{label}
-use Rattle.services.specs.Calls.{isService}
+use Rattle.services.specs.Calls.{howMany, isService}
 use Rattle.services.proofs.Numbers.{fits, at-place}
 
 -- neither name with its comma begins the other
@@ -30,7 +30,7 @@ pub table-right : right services ≡ true
 unfolding right apart table label begins
 table-right = refl
 
-pub table-size : length services ≡ 33
+pub table-size : length services ≡ howMany
 unfolding table
 table-size = refl
 
@@ -44,16 +44,16 @@ pub service-low : (n : ℕ) → isService n ≡ true → 1 ≤ n
 unfolding within
 service-low n h = go (leb 1 n) refl h
   where
-    go : (b : Bool) → leb 1 n ≡ b → b && leb n 33 ≡ true → 1 ≤ n
+    go : (b : Bool) → leb 1 n ≡ b → b && leb n howMany ≡ true → 1 ≤ n
     go true e h = leb-true 1 n e
     go false e h = let z : _≡_ {A = ℕ} 0 1 = cc in omega arith
 
-pub service-top : (n : ℕ) → isService n ≡ true → n ≤ 33
+pub service-top : (n : ℕ) → isService n ≡ true → n ≤ howMany
 unfolding within
 service-top n h = go (leb 1 n) h
   where
-    go : (b : Bool) → b && leb n 33 ≡ true → n ≤ 33
-    go true h = leb-true n 33 h
+    go : (b : Bool) → b && leb n howMany ≡ true → n ≤ howMany
+    go true h = leb-true n howMany h
     go false h = let z : _≡_ {A = ℕ} 0 1 = cc in omega arith
 
 -- table and calls agree: a service makes calls of its own number

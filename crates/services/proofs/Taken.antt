@@ -13,6 +13,7 @@ use Rattle.model.proofs.Words.{table}
 use Rattle.services.specs.declared.takes.Takes.{Takes}
 use Rattle.services.specs.declared.takes.Takes.the-variants.{Blank, Plain, Timeout}
 use Rattle.services.specs.Takes.{takesIn, takesAt}
+use Rattle.services.specs.Calls.{howMany}
 use Rattle.services.proofs.Numbers.{Rest, has, none-is, below, at-number}
 use Rattle.services.proofs.Table.{table-size}
 
@@ -39,12 +40,12 @@ same-is Timeout Plain t = absurd t
 same-is Timeout Timeout t = refl
 
 -- ---- past the table, and past the fields
-no-fields : (n : ℕ) → 34 ≤ n → service n .fields ≡ []
+no-fields : (n : ℕ) → howMany < n → service n .fields ≡ []
 unfolding service
 no-fields zero h = absurd (omega arith)
 no-fields (suc k) h = rw (List·getD-eq-default services _ {n = k} (rw table-size (omega arith)))
 
-pub past-table : (n i : ℕ) → 34 ≤ n → takesAt n i ≡ Blank
+pub past-table : (n i : ℕ) → howMany < n → takesAt n i ≡ Blank
 unfolding takesAt takesIn
 past-table n i h = rw (no-fields n h)
 
@@ -54,24 +55,24 @@ past-fields [] i h = refl
 past-fields (x ∷ xs) zero h = absurd (omega arith)
 past-fields (x ∷ xs) (suc i) h = past-fields xs i (omega arith)
 
-four-at-most : So (below 34 (λ n. leb (length (service n .fields)) 4))
+four-at-most : So (below (suc howMany) (λ n. leb (length (service n .fields)) 4))
 unfolding below table
 four-at-most = tt
 
 pub past-d : (n i : ℕ) → 4 ≤ i → takesAt n i ≡ Blank
 unfolding takesAt
-past-d n i h = go (decLt n 34)
+past-d n i h = go (decLt n (suc howMany))
   where
-    go : Dec (n < 34) → takesIn (service n .fields) i ≡ Blank
-    go (yes g) = past-fields (service n .fields) i (omega (arith, h, leb→le (length (service n .fields)) 4 (at-number 34 (λ n. leb (length (service n .fields)) 4) four-at-most n g)))
+    go : Dec (n < suc howMany) → takesIn (service n .fields) i ≡ Blank
+    go (yes g) = past-fields (service n .fields) i (omega (arith, h, leb→le (length (service n .fields)) 4 (at-number (suc howMany) (λ n. leb (length (service n .fields)) 4) four-at-most n g)))
     go (no g) = past-fields (service n .fields) i (rw (no-fields n (omega arith)) (omega arith))
 
 -- ---- at every number of the table but those in ks
 abbrev pub butAt : List ℕ → ℕ → Takes → Bool
-butAt ks i x = below 34 (λ n. has ks n || same (takesAt n i) x)
+butAt ks i x = below (suc howMany) (λ n. has ks n || same (takesAt n i) x)
 
-pub others-take : (ks : List ℕ) (i : ℕ) (x : Takes) → So (butAt ks i x) → (n : ℕ) → Rest ks n Unit → n < 34 → takesAt n i ≡ x
-others-take ks i x t n r h = go (has ks n) (λ u. none-is ks n Unit r n u refl) (at-number 34 (λ n. has ks n || same (takesAt n i) x) t n h)
+pub others-take : (ks : List ℕ) (i : ℕ) (x : Takes) → So (butAt ks i x) → (n : ℕ) → Rest ks n Unit → n < suc howMany → takesAt n i ≡ x
+others-take ks i x t n r h = go (has ks n) (λ u. none-is ks n Unit r n u refl) (at-number (suc howMany) (λ n. has ks n || same (takesAt n i) x) t n h)
   where
     go : (b : Bool) → (So b → ⊥) → So (b || same (takesAt n i) x) → takesAt n i ≡ x
     go true not u = absurd (not tt)
@@ -79,9 +80,9 @@ others-take ks i x t n r h = go (has ks n) (λ u. none-is ks n Unit r n u refl) 
 
 -- and past the table, where nothing is taken
 pub others-blank : (ks : List ℕ) (i : ℕ) → So (butAt ks i Blank) → (n : ℕ) → Rest ks n Unit → takesAt n i ≡ Blank
-others-blank ks i t n r = go (decLt n 34)
+others-blank ks i t n r = go (decLt n (suc howMany))
   where
-    go : Dec (n < 34) → takesAt n i ≡ Blank
+    go : Dec (n < suc howMany) → takesAt n i ≡ Blank
     go (yes h) = others-take ks i Blank t n r h
     go (no h) = past-table n i (omega arith)
 
@@ -100,7 +101,7 @@ pub timeoutsBelow : ℕ → List (ℕ × ℕ)
 timeoutsBelow zero = []
 timeoutsBelow (suc n) = timeoutsBelow n ++ timeoutsOf n 4
 
--- tn_task_sleep a, tn_sem_acquire b, tn_event_wait d
-pub these-take-timeouts : timeoutsBelow 34 ≡ (9, 0) ∷ (21, 1) ∷ (30, 3) ∷ []
+-- tn_task_sleep a, tn_sem_acquire b, tn_event_wait d, tn_queue_send c, tn_queue_receive b
+pub these-take-timeouts : timeoutsBelow (suc howMany) ≡ (9, 0) ∷ (21, 1) ∷ (30, 3) ∷ (36, 2) ∷ (39, 1) ∷ []
 unfolding timeoutsBelow timeoutsOf takesAt takesIn table
 these-take-timeouts = refl

@@ -7,8 +7,12 @@ use Rattle.model.specs.Services.{service}
 use Rattle.services.specs.declared.calls.Asked.{Asked}
 use Rattle.services.specs.declared.calls.Asked.the-variants.{Named, Nothing}
 
+-- how many services there are
+abbrev pub howMany : ℕ
+howMany = 41
+
 abbrev pub isService : ℕ → Bool
-isService n = within 1 n 33
+isService n = within 1 n howMany
 
 unfoldable pub asked : ℕ → ℕ → ℕ → ℕ → ℕ → Asked
 asked n a b c d = cond (isService n) (Named (service n .call a b c d)) Nothing

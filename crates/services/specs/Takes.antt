@@ -2,7 +2,7 @@
 -- It rests on the table of services, whose kinds of numbers decide it.
 use Prim.Native.Nat.{ℕ, zero, suc}
 use mathlib.Core.List.{List, [], _∷_}
-use Rattle.model.specs.Services.{Field, theTask, thePriority, theOption, theLevel, theSlice, theTimeout, theSemaphore, theStart, theMaximum, theFlag, theAttributes, theBits, thePattern, theMode, service}
+use Rattle.model.specs.Services.{Field, theTask, thePriority, theOption, theLevel, theSlice, theTimeout, theSemaphore, theStart, theMaximum, theFlag, theAttributes, theBits, thePattern, theMode, theQueue, theCapacity, theElement, service}
 use Rattle.services.specs.declared.takes.Takes.{Takes}
 use Rattle.services.specs.declared.takes.Takes.the-variants.{Blank, Plain, Timeout}
 
@@ -22,6 +22,9 @@ takesOf theAttributes = Plain
 takesOf theBits = Plain
 takesOf thePattern = Plain
 takesOf theMode = Plain
+takesOf theQueue = Plain
+takesOf theCapacity = Plain
+takesOf theElement = Plain
 
 -- at a place among numbers, from 0 on; past the last of them a field is blank
 unfoldable pub takesIn : List Field → ℕ → Takes

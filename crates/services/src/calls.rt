@@ -1,9 +1,10 @@
-// A service by its number, from 1 to 33 as include/gritgarland.h has them: the call that it makes.
+// A service by its number, from 1 to 41 as include/gritgarland.h has them: the call that it makes.
 // The function is a definition of specs/Calls, for every value; it rests on model alone.
 ghost use mathlib.Core.Path.{_≡_};
 ghost use Rattle.services.specs.Calls.{asked};
 use model::Call;
 use model::FlagService;
+use model::QueueService;
 
 // The call that numbers ask for, or nothing where they name no service.
 pub enum Asked {
@@ -103,6 +104,41 @@ pub fn call_of(number: u32, a: u32, b: u32, c: u32, d: u32) -> Asked
             },
         }),
         33 => Asked::Named(Call::ReadyTicks { task: a }),
+        34 => Asked::Named(Call::OnQueue {
+            queue: a,
+            service: QueueService::Create { capacity: b },
+        }),
+        35 => Asked::Named(Call::OnQueue {
+            queue: a,
+            service: QueueService::Delete,
+        }),
+        36 => Asked::Named(Call::OnQueue {
+            queue: a,
+            service: QueueService::Send {
+                element: b,
+                timeout: c,
+            },
+        }),
+        37 => Asked::Named(Call::OnQueue {
+            queue: a,
+            service: QueueService::SendPolling { element: b },
+        }),
+        38 => Asked::Named(Call::OnQueue {
+            queue: a,
+            service: QueueService::IsendPolling { element: b },
+        }),
+        39 => Asked::Named(Call::OnQueue {
+            queue: a,
+            service: QueueService::Receive { timeout: b },
+        }),
+        40 => Asked::Named(Call::OnQueue {
+            queue: a,
+            service: QueueService::ReceivePolling,
+        }),
+        41 => Asked::Named(Call::OnQueue {
+            queue: a,
+            service: QueueService::Ireceive,
+        }),
         _ => Asked::Nothing,
     }
 }

@@ -1,7 +1,7 @@
-// The service whose name, with the comma after it, begins a part of a file: of those that lists hold, the first 32.
+// The service whose name, with the comma after it, begins a part of a file: of those that lists hold, all but number 33.
 // Each function is a definition of specs/Names, for every value; it rests on text.
 ghost use mathlib.Core.Path.{_≡_};
-ghost use Rattle.model.specs.Services.{tasks, semaphores, flags};
+ghost use Rattle.model.specs.Services.{tasks, semaphores, flags, queues};
 ghost use Rattle.services.specs.Names.{labelled, nameIn, nameOf};
 use text::words::begins;
 use text::words::byte_at;
@@ -90,6 +90,37 @@ fn flag_name(s: &[u8]) -> Name
     }
 }
 
+fn queue_name(s: &[u8]) -> Name
+    ensures { λ r. ⌜ r ≡ nameIn queues 34 (now (s .entry)) ⌝ }
+{
+    let key = byte_at(s, 9) as u32 + byte_at(s, 10) as u32;
+    match key {
+        213 => labelled(s, b"tn_queue_create,", 34),
+        201 => labelled(s, b"tn_queue_delete,", 35),
+        216 => {
+            if begins(s, b"tn_queue_send,") {
+                return Name::Known {
+                    number: 36,
+                    next: 14,
+                };
+            }
+            labelled(s, b"tn_queue_send_polling,", 37)
+        }
+        220 => labelled(s, b"tn_queue_isend_polling,", 38),
+        215 => {
+            if begins(s, b"tn_queue_receive,") {
+                return Name::Known {
+                    number: 39,
+                    next: 17,
+                };
+            }
+            labelled(s, b"tn_queue_receive_polling,", 40)
+        }
+        219 => labelled(s, b"tn_queue_ireceive,", 41),
+        _ => Name::Unknown,
+    }
+}
+
 pub fn read_name(s: &[u8]) -> Name
     ensures { λ r. ⌜ r ≡ nameOf (now (s .entry)) ⌝ }
 {
@@ -100,6 +131,7 @@ pub fn read_name(s: &[u8]) -> Name
         b'i' => labelled(s, b"tn_tick_int_processing,", 16),
         b'e' => semaphore_name(s),
         b'v' => flag_name(s),
+        b'u' => queue_name(s),
         _ => Name::Unknown,
     }
 }

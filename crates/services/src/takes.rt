@@ -13,7 +13,7 @@ pub enum Takes {
 fn takes_a(number: u32) -> Takes
     ensures { λ r. ⌜ r ≡ takesAt number 0 ⌝ }
 {
-    if 33 < number {
+    if 41 < number {
         return Takes::Blank;
     }
     match number {
@@ -42,6 +42,11 @@ fn takes_b(number: u32) -> Takes
         30 => Takes::Plain, // tn_event_wait: pattern
         31 => Takes::Plain, // tn_event_wait_polling: pattern
         32 => Takes::Plain, // tn_event_iwait: pattern
+        34 => Takes::Plain, // tn_queue_create: capacity
+        36 => Takes::Plain, // tn_queue_send: element
+        37 => Takes::Plain, // tn_queue_send_polling: element
+        38 => Takes::Plain, // tn_queue_isend_polling: element
+        39 => Takes::Timeout, // tn_queue_receive: timeout
         _ => Takes::Blank,
     }
 }
@@ -56,6 +61,7 @@ fn takes_c(number: u32) -> Takes
         30 => Takes::Plain, // tn_event_wait: mode
         31 => Takes::Plain, // tn_event_wait_polling: mode
         32 => Takes::Plain, // tn_event_iwait: mode
+        36 => Takes::Timeout, // tn_queue_send: timeout
         _ => Takes::Blank,
     }
 }

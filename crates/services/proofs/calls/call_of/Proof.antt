@@ -140,8 +140,40 @@ unfolding asked within table
 returns-33 c = rw (c .match .keys33)
 
 returns-34 : tie.Need-returns-34
+unfolding asked within table
+returns-34 c = rw (c .match .keys34)
+
+returns-35 : tie.Need-returns-35
+unfolding asked within table
+returns-35 c = rw (c .match .keys35)
+
+returns-36 : tie.Need-returns-36
+unfolding asked within table
+returns-36 c = rw (c .match .keys36)
+
+returns-37 : tie.Need-returns-37
+unfolding asked within table
+returns-37 c = rw (c .match .keys37)
+
+returns-38 : tie.Need-returns-38
+unfolding asked within table
+returns-38 c = rw (c .match .keys38)
+
+returns-39 : tie.Need-returns-39
+unfolding asked within table
+returns-39 c = rw (c .match .keys39)
+
+returns-40 : tie.Need-returns-40
+unfolding asked within table
+returns-40 c = rw (c .match .keys40)
+
+returns-41 : tie.Need-returns-41
+unfolding asked within table
+returns-41 c = rw (c .match .keys41)
+
+returns-42 : tie.Need-returns-42
 unfolding asked
-returns-34 c = rw (no-service _ (c .match .rest))
+returns-42 c = rw (no-service _ (c .match .rest))
 
 pub call-of-spec : {M : Type 1} → statement M
 call-of-spec =
@@ -180,4 +212,12 @@ call-of-spec =
     returns-31
     returns-32
     returns-33
-    returns-34)
+    returns-34
+    returns-35
+    returns-36
+    returns-37
+    returns-38
+    returns-39
+    returns-40
+    returns-41
+    returns-42)

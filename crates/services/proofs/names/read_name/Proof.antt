@@ -28,7 +28,11 @@ unfolding keyed nameIn table label
 returns-5 c = at-family (c .before .before .before .before .args .s .now) (c .before .before .byte-at .ensures) (c .before .match .keys5) (c .flag-name .ensures)
 
 returns-6 : tie.Need-returns-6
-returns-6 c = no-family (c .before .before .before .args .s .now) _ (c .before .byte-at .ensures) (c .match .rest)
+unfolding keyed nameIn table label
+returns-6 c = at-family (c .before .before .before .before .args .s .now) (c .before .before .byte-at .ensures) (c .before .match .keys6) (c .queue-name .ensures)
+
+returns-7 : tie.Need-returns-7
+returns-7 c = no-family (c .before .before .before .args .s .now) _ (c .before .byte-at .ensures) (c .match .rest)
 
 pub read-name-spec : {M : Type 1} → statement M
 read-name-spec =
@@ -42,9 +46,11 @@ read-name-spec =
     (λ c κs. search needs)
     (λ c κs. search needs)
     (λ c κs. search needs)
+    (λ c κs. search needs)
     returns
     returns-2
     returns-3
     returns-4
     returns-5
-    returns-6)
+    returns-6
+    returns-7)

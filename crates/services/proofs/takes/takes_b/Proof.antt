@@ -62,8 +62,49 @@ unfolding takesAt takesIn table
 returns-13 c = rw (c .match .keys13)
 
 returns-14 : tie.Need-returns-14
+unfolding takesAt takesIn table
+returns-14 c = rw (c .match .keys14)
+
+returns-15 : tie.Need-returns-15
+unfolding takesAt takesIn table
+returns-15 c = rw (c .match .keys15)
+
+returns-16 : tie.Need-returns-16
+unfolding takesAt takesIn table
+returns-16 c = rw (c .match .keys16)
+
+returns-17 : tie.Need-returns-17
+unfolding takesAt takesIn table
+returns-17 c = rw (c .match .keys17)
+
+returns-18 : tie.Need-returns-18
+unfolding takesAt takesIn table
+returns-18 c = rw (c .match .keys18)
+
+returns-19 : tie.Need-returns-19
 unfolding takesAt takesIn table has below
-returns-14 c = sym (others-blank (1 ∷ 14 ∷ 15 ∷ 17 ∷ 21 ∷ 24 ∷ 26 ∷ 27 ∷ 28 ∷ 29 ∷ 30 ∷ 31 ∷ 32 ∷ []) 1 tt _ (c .match .rest))
+returns-19 c = sym (others-blank (1 ∷ 14 ∷ 15 ∷ 17 ∷ 21 ∷ 24 ∷ 26 ∷ 27 ∷ 28 ∷ 29 ∷ 30 ∷ 31 ∷ 32 ∷ 34 ∷ 36 ∷ 37 ∷ 38 ∷ 39 ∷ []) 1 tt _ (c .match .rest))
 
 pub takes-b-spec : {M : Type 1} → statement M
-takes-b-spec = tie.close (tie.spec returns returns-2 returns-3 returns-4 returns-5 returns-6 returns-7 returns-8 returns-9 returns-10 returns-11 returns-12 returns-13 returns-14)
+takes-b-spec =
+    tie.close
+    (tie.spec
+    returns
+    returns-2
+    returns-3
+    returns-4
+    returns-5
+    returns-6
+    returns-7
+    returns-8
+    returns-9
+    returns-10
+    returns-11
+    returns-12
+    returns-13
+    returns-14
+    returns-15
+    returns-16
+    returns-17
+    returns-18
+    returns-19)

@@ -34,8 +34,12 @@ unfolding takesAt takesIn table
 returns-6 c = rw (c .match .keys6)
 
 returns-7 : tie.Need-returns-7
+unfolding takesAt takesIn table
+returns-7 c = rw (c .match .keys7)
+
+returns-8 : tie.Need-returns-8
 unfolding takesAt takesIn table has below
-returns-7 c = sym (others-blank (1 ∷ 17 ∷ 24 ∷ 30 ∷ 31 ∷ 32 ∷ []) 2 tt _ (c .match .rest))
+returns-8 c = sym (others-blank (1 ∷ 17 ∷ 24 ∷ 30 ∷ 31 ∷ 32 ∷ 36 ∷ []) 2 tt _ (c .match .rest))
 
 pub takes-c-spec : {M : Type 1} → statement M
-takes-c-spec = tie.close (tie.spec returns returns-2 returns-3 returns-4 returns-5 returns-6 returns-7)
+takes-c-spec = tie.close (tie.spec returns returns-2 returns-3 returns-4 returns-5 returns-6 returns-7 returns-8)

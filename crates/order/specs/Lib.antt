@@ -1,0 +1,5 @@
+pub mod Lists
+pub mod Ledger
+pub mod Statements
+pub mod Wrong
+pub mod Page
