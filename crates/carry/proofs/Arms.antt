@@ -12,14 +12,15 @@ use Rattle.model.specs.declared.News.{News}
 use Rattle.model.specs.declared.News.the-variants.{Deleted}
 use Rattle.model.specs.declared.Effect.{Effect}
 use Rattle.model.specs.declared.Effect.the-variants.{Nothing, Moves, Stops, Counts, Deletes, Slices, Ticks, Flags, Tells}
+use Rattle.model.specs.declared.Effect.the-variants.{Queues, Removes, Stores, Takes, Refills}
 use Rattle.model.specs.Row.{firstOf}
 use Rattle.model.specs.Flag.{flagRow}
 use Rattle.model.specs.Task.{dormant, activated, withMarks}
-use Rattle.model.specs.State.{task, time, waiters, moved, movedFrom, counted, flagged, sliced, marked, noted, ofSlices, ofCounts, ofMaxima, ofAttributes, ofBits, ofTime}
-use Rattle.model.specs.Effect.{stopped, deleted, toldFlag, toldAll, charged, lapsed, tickedFrom, carriedFrom}
+use Rattle.model.specs.State.{task, time, waiters, moved, movedFrom, counted, flagged, sliced, marked, stocked, sized, noted, ofSlices, ofCounts, ofMaxima, ofAttributes, ofBits, ofTime, ofCapacities}
+use Rattle.model.specs.Effect.{stopped, deleted, toldFlag, toldAll, charged, lapsed, tickedFrom, stored, taken, removed, refilled, carriedFrom}
 
 -- a state with other numbers
-abbrev with : State → Numbers → State
+abbrev pub with : State → Numbers → State
 with s x = record { tasks = s .tasks; levels = s .levels; waits = s .waits; numbers = x }
 
 -- ---- a stop
@@ -66,6 +67,26 @@ module _ (run : ℕ) (e : Effect) (s : State) where
 
   pub ticks : (s₁ : State) → e ≡ Ticks → s₁ ≡ tickedFrom run s → s₁ ≡ carriedFrom run s e
   ticks s₁ f m = rw f m
+
+  -- ---- data queues
+  pub queues : (q c : ℕ) (x : Numbers) → e ≡ Queues q c → x ≡ noted ofCapacities q c (s .numbers) → with s x ≡ carriedFrom run s e
+  unfolding sized
+  queues q c x f a = rw (f, a)
+
+  -- of a change of the elements alone nothing but the numbers is asked, whatever else a state has
+  pub stores : (q n v : ℕ) (x : Numbers) (r : State) → e ≡ Stores q n v → x ≡ stored q n v (with r (s .numbers)) .numbers → with s x ≡ carriedFrom run s e
+  unfolding stored stocked
+  stores q n v x r f a = rw (f, a)
+
+  pub takes : (q : ℕ) (x : Numbers) (r : State) → e ≡ Takes q → x ≡ taken q (with r (s .numbers)) .numbers → with s x ≡ carriedFrom run s e
+  unfolding taken stocked
+  takes q x r f a = rw (f, a)
+
+  pub removes : (q : ℕ) (s₁ : State) → e ≡ Removes q → s₁ ≡ removed q s → s₁ ≡ carriedFrom run s e
+  removes q s₁ f m = rw f m
+
+  pub refills : (q : ℕ) (s₁ : State) → e ≡ Refills q → s₁ ≡ refilled q s → s₁ ≡ carriedFrom run s e
+  refills q s₁ f m = rw f m
 
   -- after the news: the state that it left
   module _ (q : List ℕ) (w : News) (s₁ : State) (x y : Numbers) (h : s₁ ≡ toldAll w q s) where

@@ -3,6 +3,10 @@
 ghost use mathlib.Core.Path.{_≡_};
 ghost use Rattle.model.specs.Effect.{stopped, tickedFrom, carriedFrom};
 ghost use Rattle.tables.specs.Lent.{before, after};
+use crate::queue::refill;
+use crate::queue::remove;
+use crate::queue::store;
+use crate::queue::take;
 use effects::move_from;
 use effects::move_task;
 use model::Effect;
@@ -16,6 +20,8 @@ use stored::Bytes;
 use stored::Words;
 use stored::put_charge;
 use stored::record_at;
+
+mod queue;
 
 // ---- one task becomes dormant, and runnable again at once where an activation is counted
 fn stop_task(
@@ -113,5 +119,16 @@ pub fn carry(
             numbers::put_attributes(numbers, flag as usize, attributes);
             numbers::put_bits(numbers, flag as usize, bits);
         }
+        Effect::Queues { queue, capacity } => {
+            numbers::put_capacity(numbers, queue as usize, capacity)
+        }
+        Effect::Removes { queue } => remove(bytes, words, levels, waits, numbers, queue),
+        Effect::Stores {
+            queue,
+            taken,
+            element,
+        } => store(numbers, queue, taken, element),
+        Effect::Takes { queue } => take(numbers, queue),
+        Effect::Refills { queue } => refill(bytes, words, levels, waits, numbers, queue),
     }
 }

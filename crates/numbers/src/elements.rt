@@ -59,6 +59,22 @@ fn pull(ps: &mut [u32])
     ps[i] = 0;
 }
 
+// The first leaves, and v is stored at place i.
+fn refill(ps: &mut [u32], i: usize, v: u32)
+    requires { ⌜ 0 < length (now ps) ⌝ }
+    ensures { λ r. ⌜ now (ps .exit) ≡ put (pulled (now (ps .entry))) i v ⌝ }
+{
+    pull(ps);
+    put_word(ps, i, v);
+}
+
+fn refill_in(ns: &mut [u32], a: usize, i: usize, v: u32)
+    requires { ⌜ a + 16 ≤ length (now ns) ⌝ }
+    ensures { λ r. ⌜ now (ns .exit) ≡ sets (now (ns .entry)) a (put (pulled (part a 16 (now (ns .entry)))) i v) ⌝ }
+{
+    refill(&mut ns[a..a + PLACES], i, v);
+}
+
 pub fn put_element(ns: &mut NumberTable, q: usize, i: usize, v: u32)
     ensures { λ r. ⌜ heldIn (now (ns .exit)) ≡ filled q (put (placesOf (heldIn (now (ns .entry)) .elements) q) i v) (heldIn (now (ns .entry))) ⌝ }
 {
@@ -77,6 +93,16 @@ pub fn pull_elements(ns: &mut NumberTable, q: usize)
     }
     let n: &mut [u32] = ns;
     pull_in(n, (ELEMENTS as usize) + q * PLACES);
+}
+
+pub fn refill_elements(ns: &mut NumberTable, q: usize, i: usize, v: u32)
+    ensures { λ r. ⌜ heldIn (now (ns .exit)) ≡ filled q (put (pulled (placesOf (heldIn (now (ns .entry)) .elements) q)) i v) (heldIn (now (ns .entry))) ⌝ }
+{
+    if LAST < q {
+        return;
+    }
+    let n: &mut [u32] = ns;
+    refill_in(n, (ELEMENTS as usize) + q * PLACES, i, v);
 }
 
 pub fn clear_elements(ns: &mut NumberTable, q: usize)
