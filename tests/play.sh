@@ -195,7 +195,7 @@ said refused-calls <<'END'
     2 with -1 OVERFLOW: a count is at its top, or a task is suspended already: line 3 (call 2), line 20 (call 19)
     4 with -2 WCONTEXT: wrong context, nobody runs where a task is needed, or wrong state of the task: line 4 (call 3), line 5 (call 4), line 16 (call 15), line 18 (call 17)
     2 with -3 WSTATE: a dormant task suspended, or a task resumed that is not suspended: line 7 (call 6), line 8 (call 7)
-    1 with -4 TIMEOUT: an empty semaphore polled, or a flag whose bits do not meet the pattern: line 10 (call 9)
+    1 with -4 TIMEOUT: an empty semaphore or queue polled, a full queue sent to, or a flag whose bits do not meet the pattern: line 10 (call 9)
     3 with -5 WRONG_PARAM: a number out of range, or an existing object created: line 11 (call 10), line 12 (call 11), line 14 (call 13)
     2 with -9 NOEXS: no such object is created: line 13 (call 12), line 15 (call 14)
 END
