@@ -6,6 +6,7 @@ pub mod Relisted
 pub mod Occ
 pub mod Padded
 pub mod Room
+pub mod Places
 pub mod Bits
 pub mod Record
 pub mod Waits

@@ -18,14 +18,15 @@ use Rattle.model.specs.declared.Context.{Context}
 use Rattle.model.specs.declared.Call.{Call}
 use Rattle.model.specs.declared.News.the-variants.{Deleted}
 use Rattle.model.specs.Flag.{flagRow}
+use Rattle.model.specs.DataQueue.{queueRow}
 use Rattle.model.specs.Task.{levelOf, since}
-use Rattle.model.specs.State.{task, time, waiters, running, moved, marked, counted, flagged, sliced, withTime}
+use Rattle.model.specs.State.{task, time, waiters, running, moved, marked, counted, flagged, stocked, sized, sliced, withTime}
 use Rattle.model.specs.Code.{isRefusal}
 use Rattle.model.specs.Plan.{within}
 use Rattle.model.specs.Service.{readyTicks}
 use Rattle.model.specs.Services.{isMine}
 use Rattle.model.proofs.Words.{table}
-use Rattle.model.specs.Effect.{deleted, toldFlag, charged, ticked, carried}
+use Rattle.model.specs.Effect.{deleted, toldFlag, stored, taken, refilled, removed, charged, ticked, carried}
 use Rattle.model.specs.Call.{plan, planned, step}
 use Rattle.model.specs.Test.{one}
 use Rattle.model.specs.Sound.{Sound}
@@ -37,7 +38,7 @@ use Rattle.soundness.proofs.Soundness.{sound-stays-sound}
 use Rattle.ways.specs.Kind.{Kind, kind, isTick}
 use Rattle.ways.specs.Entry as Tallies
 use Rattle.ways.proofs.Tests.{some-of}
-use Rattle.ways.proofs.Done.{Done, Way, refuses, accepts}
+use Rattle.ways.proofs.Done.{Receives, direct, oldest, refills, Done, Way, refuses, accepts}
 use Rattle.ways.proofs.Done.{Done as Ways}
 use Rattle.ways.proofs.Ways.{way}
 use Rattle.turns.specs.Tally.{reachedBy}
@@ -48,8 +49,14 @@ use Rattle.since.proofs.Marks.{Marks, marks, keeps, marks-step}
 
 -- ---- the clock
 module _ (s : State) where
-  clock-done : {j : Kind} {i : Tallies.Entry} {c : Code} {x : Effect} → Done s j i c x → time (carried s x) ≡ cond (isTick j) ((time s + 1) % 2 ^ 32) (time s)
-  unfolding carried ticked moved counted flagged sliced marked deleted toldFlag
+  clock-receives : {q v : ℕ} {x : Effect} → Receives s q v x → time (carried s x) ≡ time s
+  unfolding carried taken refilled stocked moved
+  clock-receives (direct side empty e) = refl
+  clock-receives (oldest alone some e) = refl
+  clock-receives (refills side some e) = refl
+
+  clock-done : {v : ℕ} {j : Kind} {i : Tallies.Entry} {c : Code} {x : Effect} → Done s v j i c x → time (carried s x) ≡ cond (isTick j) ((time s + 1) % 2 ^ 32) (time s)
+  unfolding carried ticked moved counted flagged sliced marked deleted toldFlag sized stored stocked removed
   clock-done Ways.ticks = rw (numbers-lapsed 24 1 (charged (running s) z), only-charged z (running s) .numbers)
     where
       z : State
@@ -68,6 +75,11 @@ module _ (s : State) where
   clock-done (Ways.takes m made left i) = refl
   clock-done (Ways.flags f a b r) = refl
   clock-done (Ways.tells f w a b made r) = rw (numbers-told w (waiters s (flagRow f)) s)
+  clock-done (Ways.opens q c low top most free) = refl
+  clock-done (Ways.removes q made) = rw (numbers-told Deleted (waiters s (queueRow q)) s)
+  clock-done (Ways.hands q e made side) = refl
+  clock-done (Ways.stores q e made alone room) = refl
+  clock-done (Ways.gets q made r) = clock-receives r
 
   clock-way : {j : Kind} {i : Tallies.Entry} {p : Plan} → Way s j i p → time (carried s (p .effect)) ≡ cond (not (isRefusal (p .code)) && isTick j) ((time s + 1) % 2 ^ 32) (time s)
   clock-way {j} (refuses c n d) = unfold carried in go (isRefusal c) n

@@ -14,12 +14,13 @@ use Rattle.model.specs.declared.News.{News}
 use Rattle.model.specs.declared.News.the-variants.{Deleted}
 use Rattle.model.specs.Row.{firstOf}
 use Rattle.model.specs.Flag.{flagRow}
+use Rattle.model.specs.DataQueue.{queueRow}
 use Rattle.model.specs.Task.{noTask, levelOf, dormant, activated, created, settled, served, released, waiting, ended}
-use Rattle.model.specs.State.{task, time, waiters, running, moved, counted, flagged, sliced, withTime}
-use Rattle.model.specs.Effect.{stopped, toldAll, deleted, toldFlag, charged, lapsed, ticked, carried}
+use Rattle.model.specs.State.{task, time, takenOf, waiters, running, moved, counted, flagged, stocked, sized, sliced, withTime}
+use Rattle.model.specs.Effect.{stopped, toldAll, deleted, toldFlag, stored, taken, refilled, removed, charged, lapsed, ticked, carried}
 use Rattle.model.specs.Sound.{SoundTask, Sound}
 use Rattle.laws.proofs.Number.{same?}
-use Rattle.laws.proofs.Record.{level-none, level-dormant, level-settled, entry-new, entry-none, entry-same}
+use Rattle.laws.proofs.Record.{level-none, level-dormant, level-settled, entry-new, entry-none, entry-same, queue-row}
 use Rattle.laws.proofs.Relisted.{relisted-kept}
 use Rattle.soundness.proofs.Listed.{key-first}
 use Rattle.soundness.proofs.Moved.{task-moved, tasks-moved}
@@ -33,7 +34,7 @@ use Rattle.soundness.proofs.Effects.{sound-charged}
 use Rattle.tested.proofs.Records.{level-most}
 use Rattle.ways.specs.Kind.{Kind}
 use Rattle.ways.specs.Entry.{Entry}
-use Rattle.ways.proofs.Done.{Change, Done}
+use Rattle.ways.proofs.Done.{QueueMade, firstAt, Change, Receives, direct, oldest, refills, Done}
 use Rattle.ways.proofs.Done.{Done as Ways}
 use Rattle.ways.proofs.Done.Change.{creates, deletes, activates, countsActivation, suspends, resumes, usesWakeup, wakes, countsWakeup, prioritises}
 use Rattle.turns.proofs.Still.{only-charged}
@@ -237,7 +238,23 @@ module _ (s : State) (k : Sound s) (t : ℕ) (low : 1 ≤ t) (top : t ≤ 24) wh
   noting y z a b c (leaves e f g) = leaves (rw a e) f (rw a g)
   noting y z a b c (stays d p) = stays d (record { level = rw a (p .level); entered = rw a (p .entered); active = rw a (p .active); first = λ l f. rw b (p .first l f) })
 
-  pub seen : {j : Kind} {i : Entry} {c : Code} {x : Effect} → Done s j i c x → Seen s t j (carried s x)
+  -- the first of a row of waiters is served, and gets b
+  serving : {j : Kind} (m b : ℕ) → 1 ≤ m → m ≤ 28 → (endedBy s j ≡ t → ⊥) → 1 ≤ firstOf (s .waits) m → Seen s t j (moved (firstOf (s .waits) m) (ended (task s (firstOf (s .waits) m)) served b) s)
+  serving m b least most goes-on some =
+      let u = firstOf (s .waits) m in
+      changing u (ended (task s u) served b) goes-on (row-live (task s u) (k .tasks u) (omega (arith, first-waits s k m most some))) refl refl
+
+  -- the first who waits on a data queue
+  queue-serving : {j : Kind} {q : ℕ} → QueueMade s q → (b : ℕ) → (endedBy s j ≡ t → ⊥) → 1 ≤ firstAt s q → Seen s t j (moved (firstAt s q) (ended (task s (firstAt s q)) served b) s)
+  queue-serving {q = q} made b = let n = queue-row q (made .low) (made .top) in serving (queueRow q) b (omega (arith, n)) (omega (arith, n, made .top))
+
+  receiving : {j : Kind} {q v : ℕ} {x : Effect} → QueueMade s q → (endedBy s j ≡ t → ⊥) → Receives s q v x → Seen s t j (carried s x)
+  unfolding carried
+  receiving made goes-on (direct side empty e) = queue-serving made 0 goes-on (side .0)
+  receiving {q = q} made goes-on (oldest none some e) = stays goes-on (unfold taken stocked in alike (taken q s) refl refl)
+  receiving {q = q} made goes-on (refills side some e) = unfold refilled stocked moved in noting (moved (firstAt s q) (ended (task s (firstAt s q)) served 0) s) (refilled q s) refl refl refl (queue-serving made 0 goes-on (side .0))
+
+  pub seen : {v : ℕ} {j : Kind} {i : Entry} {c : Code} {x : Effect} → Done s v j i c x → Seen s t j (carried s x)
   unfolding carried ticked
   seen Ways.ticks = ticking nobody
   seen (Ways.exits runs) =
@@ -245,14 +262,12 @@ module _ (s : State) (k : Sound s) (t : ℕ) (low : 1 ≤ t) (top : t ≤ 24) wh
       stopping (running s) (live-made (task s (running s)) (k .tasks (running s)) (r .live)) refl
   seen (Ways.terminates u low top made) = stopping u made refl
   seen (Ways.forces u low top waits) = changing u (ended (task s u) released 0) nobody (waiting-live (task s u) (k .tasks u) (λ e. omega arith)) refl refl
-  seen (Ways.slices l v some most) =
+  seen (Ways.slices l n some most) =
       stays nobody (let p = kept-marked s k t top first 0 (task s first .entered) (there s k t top) (λ e. rw e) in unfold sliced in record { level = p .level; entered = p .entered; active = p .active; first = p .first })
     where
       first : ℕ
       first = firstOf (s .levels) l
-  seen (Ways.serves m made some) =
-      let u = firstOf (s .waits) m in
-      changing u (ended (task s u) served 0) nobody (row-live (task s u) (k .tasks u) (omega (arith, made .low, first-waits s k m (omega (arith, made .top)) some))) refl refl
+  seen (Ways.serves m made some) = serving m 0 (made .low) (omega (arith, made .top)) nobody some
   seen (Ways.raises m made free less) = stays nobody (unfold counted in alike (counted m _ _ s) refl refl)
   seen (Ways.deletes m made) = unfold deleted counted in noting (toldAll Deleted (waiters s m) s) (deleted m s) refl refl refl (telling Deleted m nobody)
   seen Ways.keeps = stays nobody (kept-same t s)
@@ -262,3 +277,8 @@ module _ (s : State) (k : Sound s) (t : ℕ) (low : 1 ≤ t) (top : t ≤ 24) wh
   seen (Ways.takes m made left i) = stays nobody (unfold counted in alike (counted m _ _ s) refl refl)
   seen (Ways.flags f a b r) = stays nobody (unfold flagged in alike (flagged f a b s) refl refl)
   seen (Ways.tells f w a b made r) = unfold toldFlag flagged in noting (toldAll w (waiters s (flagRow f)) s) (toldFlag f w a b s) refl refl refl (telling w (flagRow f) nobody)
+  seen (Ways.opens q c low top most free) = stays nobody (unfold sized in alike (sized q (c + 1) s) refl refl)
+  seen (Ways.removes q made) = unfold removed sized stocked in noting (toldAll Deleted (waiters s (queueRow q)) s) (removed q s) refl refl refl (telling Deleted (queueRow q) nobody)
+  seen (Ways.hands q e made side) = queue-serving made e nobody (side .0)
+  seen (Ways.stores q e made none room) = stays nobody (unfold stored stocked in alike (stored q (takenOf s q + 1) e s) refl refl)
+  seen (Ways.gets q made r) = receiving made nobody r

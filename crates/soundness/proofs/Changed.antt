@@ -13,22 +13,25 @@ use Rattle.model.specs.declared.State.{State}
 use Rattle.model.specs.declared.News.{News}
 use Rattle.model.specs.Row.{firstOf}
 use Rattle.model.specs.Flag.{isAttributes, isFlagAttributes, isSingle, isMet, flagRow}
-use Rattle.model.specs.Task.{served, rowOf, asleep, onFlag, dormant, activated, created, waiting}
-use Rattle.model.specs.State.{task, attribute, bitsOf, flag, running}
+use Rattle.model.specs.Task.{served, rowOf, asleep, onFlag, toSend, toReceive, dormant, activated, created, waiting}
+use Rattle.model.specs.State.{task, attribute, bitsOf, capacityOf, takenOf, flag, running}
 use Rattle.model.specs.Service.{wanted, isOccupied}
 use Rattle.model.specs.Sound.{SoundTask, Sound}
 use Rattle.laws.proofs.Bits.{unmet-without, unmet-left}
 use Rattle.laws.proofs.Says.{says-or}
-use Rattle.laws.proofs.Record.{sound-none, row-none, flag-row, row-flag}
+use Rattle.laws.proofs.Record.{sound-none, row-none, flag-row, row-flag, queue-row}
 use Rattle.ways.proofs.Tests.{equals, none-of}
-use Rattle.ways.proofs.Done.{Named, given, runs, FlagMade, Change, Begins, sleeps, queues, asks, Reflag, Tell}
+use Rattle.ways.specs.Entry.{Entry}
+use Rattle.ways.proofs.Done.{Named, given, runs, FlagMade, QueueMade, Change, Begins, sleeps, queues, asks, sends, receives, Reflag, Tell}
 use Rattle.ways.proofs.Done.Change.{creates, deletes, activates, countsActivation, suspends, resumes, usesWakeup, wakes, countsWakeup, prioritises}
 use Rattle.ways.proofs.Done.{Reflag as Reflags, Tell as Tells}
+use Rattle.soundness.proofs.Stocks.{Unserved}
 use Rattle.soundness.proofs.Changes.{MayWait, FlagFits}
-use Rattle.soundness.proofs.Records.{WaitsAs, suspended-live, sound-created, sound-activated, sound-withPriority, sound-withSuspended, sound-withWakeups, sound-withActivations, sound-ended, sound-asleep, sound-queued, sound-asking}
+use Rattle.soundness.proofs.Records.{WaitsAs, suspended-live, sound-created, sound-activated, sound-withPriority, sound-withSuspended, sound-withWakeups, sound-withActivations, sound-ended, sound-asleep, sound-queued, sound-asking, sound-sending, sound-receiving}
 use Rattle.soundness.proofs.Told.{may-none, may-same, no-waiter}
 use Rattle.soundness.proofs.Running.{runner}
 use Rattle.soundness.proofs.Effects.{Tellable}
+use Rattle.soundness.proofs.Queued.{senders, receivers}
 
 -- ---- numbers that a plan makes
 created-row : (p o : ℕ) → rowOf (created p o) ≡ 0
@@ -82,14 +85,14 @@ module _ {s : State} (k : Sound s) where
   unfolding rowOf
   change-waits {t} (creates p o low top e) = inl (created-row p o, ap rowOf (k .tasks t .blank e) ∙ row-none)
   change-waits {t} (deletes e) = let z = k .tasks t .dormant e .0 in inl (refl, rw z)
-  change-waits {t} (activates made) = inr (refl, refl, refl)
-  change-waits {t} (countsActivation live) = inr (refl, refl, refl)
-  change-waits {t} (suspends live) = inr (refl, refl, refl)
-  change-waits {t} (resumes held) = inr (refl, refl, refl)
-  change-waits {t} (usesWakeup some e) = inr (refl, refl, refl)
+  change-waits {t} (activates made) = inr (refl, refl, refl, refl)
+  change-waits {t} (countsActivation live) = inr (refl, refl, refl, refl)
+  change-waits {t} (suspends live) = inr (refl, refl, refl, refl)
+  change-waits {t} (resumes held) = inr (refl, refl, refl, refl)
+  change-waits {t} (usesWakeup some e) = inr (refl, refl, refl, refl)
   change-waits {t} (wakes live e) = inl (refl, rw e)
-  change-waits {t} (countsWakeup live awake) = inr (refl, refl, refl)
-  change-waits {t} (prioritises p top made live) = inr (refl, refl, refl)
+  change-waits {t} (countsWakeup live awake) = inr (refl, refl, refl, refl)
+  change-waits {t} (prioritises p top made live) = inr (refl, refl, refl, refl)
 
   pub change-may : {t : ℕ} {x : Task} → Change s t x → MayWait s t x
   change-may {t} {x} c = ⊎-elim (λ (z : (rowOf x ≡ 0) × (rowOf (task s t) ≡ 0)). may-none s t x (z .0)) (may-same s k t x) (change-waits c)
@@ -99,7 +102,7 @@ module _ {s : State} (k : Sound s) where
   change-row {t} {x} c h = ⊎-elim (λ (z : (rowOf x ≡ 0) × (rowOf (task s t) ≡ 0)). absurd (omega arith)) (λ (z : WaitsAs x (task s t)). z .0) (change-waits c)
 
   -- ---- a wait begins
-  pub begins-sound : {w : Wait} → 1 ≤ running s → Begins s w → SoundTask (waiting (task s (running s)) w)
+  pub begins-sound : {i : Entry} {w : Wait} → 1 ≤ running s → Begins s i w → SoundTask (waiting (task s (running s)) w)
   begins-sound some b = go b
     where
       x : Task
@@ -111,10 +114,12 @@ module _ {s : State} (k : Sound s) where
       live : 1 ≤ x .active
       live = runner s k some .live
 
-      go : {w : Wait} → Begins s w → SoundTask (waiting x w)
+      go : {i : Entry} {w : Wait} → Begins s i w → SoundTask (waiting x w)
       go (sleeps d low e) = sound-asleep x y live d low e
       go (queues m d made low e) = sound-queued x y live m d (made .low) (made .top) low
       go (asks f p m d made bits mode low free unmet) = sound-asking x y live f p m d (made .low) (made .top) low bits mode
+      go (sends q e d made low none full) = sound-sending x y live q e d (made .low) (made .top) low
+      go (receives q d made low none empty) = sound-receiving x y live q d (made .low) (made .top) low
 
   -- on a SINGLE flag that is not occupied nobody waits
   alone : (f : ℕ) → So (not (isOccupied (flag s f))) → So (isSingle (attribute s f)) → firstOf (s .waits) (flagRow f) ≡ 0
@@ -125,13 +130,26 @@ module _ {s : State} (k : Sound s) where
       go true free one = none-of (firstOf (s .waits) (flagRow f)) .yields free
       go false free one = absurd one
 
-  pub begins-may : {w : Wait} → Begins s w → MayWait s (running s) (waiting (task s (running s)) w)
+  -- on data queue q, where all who wait are on the side of x
+  may-queue : {q t : ℕ} → QueueMade s q → (x : Task) → rowOf x ≡ q + 20 → Unserved (capacityOf s q) (takenOf s q) x
+      → ((u : ℕ) → rowOf (task s u) ≡ q + 20 → task s u .wait .kind ≡ x .wait .kind) → MayWait s t x
+  may-queue {q} made x e fits alike = record {
+    waited = λ m some top z. absurd (omega (arith, made .low));
+    unmet = λ f some top z. absurd (omega (arith, made .low));
+    single = λ f u some top one z. absurd (omega (arith, made .low));
+    unserved = λ i some top z. let y : i ≡ q = omega arith in rw y fits;
+    alike = λ i u some top z there. alike u (there ∙ sym z ∙ e);
+  }
+
+  pub begins-may : {i : Entry} {w : Wait} → Begins s i w → MayWait s (running s) (waiting (task s (running s)) w)
   unfolding rowOf
   begins-may (sleeps d low e) = may-none s (running s) (waiting (task s (running s)) (asleep d)) refl
   begins-may (queues m d made low e) = record {
     waited = λ n some top f. rw (← f) (e, made .made);
     unmet = λ f some top z. absurd (omega (arith, made .top));
     single = λ f u some top one z. absurd (omega (arith, made .top));
+    unserved = λ q some top z. absurd (omega (arith, made .top));
+    alike = λ q u some top z. absurd (omega (arith, made .top));
   }
   begins-may (asks f p m d made bits mode low free unmet) = let z : rowOf (waiting (task s (running s)) (onFlag f p m d)) ≡ f + 12 = flag-row f (made .low) (made .top) in record {
     waited = λ n some most e. absurd (omega arith);
@@ -139,12 +157,18 @@ module _ {s : State} (k : Sound s) where
     single = λ n u some most one e there.
         let y : n ≡ f = omega arith in
         absurd (no-waiter s k (f + 12) (omega arith) (omega (arith, made .top)) (rw (flag-row f (made .low) (made .top)) at (alone f free (rw y at one))) u (there ∙ sym e ∙ z));
+    unserved = λ q some most e. absurd (omega (arith, made .top));
+    alike = λ q u some most e. absurd (omega (arith, made .top));
   }
+  begins-may (sends q e d made low none full) = may-queue made (waiting (task s (running s)) (toSend q e d)) (queue-row q (made .low) (made .top))
+      (made .made, λ e. absurd (omega arith), λ _. omega (arith, k .queues .within q (made .made))) (senders k made none)
+  begins-may (receives q d made low none empty) = may-queue made (waiting (task s (running s)) (toReceive q d)) (queue-row q (made .low) (made .top))
+      (made .made, λ _. empty, λ e. absurd (omega arith)) (receivers k made none)
 
   -- ---- a flag's numbers
   -- whoever waits on it asks for a bit
-  asks-some : (f t : ℕ) → 1 ≤ f → rowOf (task s t) ≡ f + 12 → 1 ≤ task s t .wait .pattern
-  asks-some f t low e = k .tasks t .asks (row-flag (task s t) (k .tasks t) f low e .0) .0
+  asks-some : {f : ℕ} → FlagMade s f → (t : ℕ) → rowOf (task s t) ≡ f + 12 → 1 ≤ task s t .wait .pattern
+  asks-some {f} made t e = k .tasks t .asks (row-flag (task s t) (k .tasks t) f (made .low) (made .top) e .0) .0
 
   -- other bits, which meet none of those who wait
   rebits : (f b : ℕ) → FlagMade s f
@@ -169,7 +193,7 @@ module _ {s : State} (k : Sound s) where
   )
   reflag-fits {f} (Reflags.clears p made) = (made .low, rebits f _ made (λ t e. unmet-without (task s t .wait .pattern) (task s t .wait .mode) (bitsOf s f) p))
   reflag-fits {f} (Reflags.meets made) =
-      (made .low, rebits f _ made (λ t e. unmet-left (task s t .wait .pattern) (task s t .wait .mode) (attribute s f) (bitsOf s f) true (asks-some f t (made .low) e)))
+      (made .low, rebits f _ made (λ t e. unmet-left (task s t .wait .pattern) (task s t .wait .mode) (attribute s f) (bitsOf s f) true (asks-some made t e)))
 
   pub tell-fits : {f : ℕ} {w : News} {a b : ℕ} → FlagMade s f → Tell s f w a b → Tellable s f w a b
   unfolding isFlagAttributes
@@ -177,6 +201,6 @@ module _ {s : State} (k : Sound s) where
   tell-fits {f} made (Tells.sets b met) = record {
     attributes = k .flags .attributes f;
     none = λ e. absurd (omega (arith, made .made));
-    unmet = λ x sound e stays. (made .made, unmet-left (x .wait .pattern) (x .wait .mode) (attribute s f) b met (sound .asks (row-flag x sound f (made .low) e .0) .0) stays);
+    unmet = λ x sound e stays. (made .made, unmet-left (x .wait .pattern) (x .wait .mode) (attribute s f) b met (sound .asks (row-flag x sound f (made .low) (made .top) e .0) .0) stays);
     single = λ one. one;
   }

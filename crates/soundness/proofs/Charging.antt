@@ -22,6 +22,7 @@ use Rattle.soundness.proofs.Listed.{lists-same, lists-turned}
 use Rattle.soundness.proofs.Charges.{charge-none, charge-turned}
 use Rattle.soundness.proofs.Orderly.{sound-orderly, no-task}
 use Rattle.soundness.proofs.Changes.{stored, semaphores-of, flags-of, renumbered}
+use Rattle.soundness.proofs.Stocks.{unserved, queues-of}
 
 -- ---- marks
 -- the same records with other marks: charges that are sound by themselves, and no time of entry of a dormant one
@@ -39,13 +40,16 @@ module _ (s : State) (k : Sound s) (xs : List Task) (n e : ℕ → ℕ) (long : 
     nobody = rw (at 0, none 0 (k .nobody), rests 0 (ap (λ (y : Task). y .active) (k .nobody)), k .nobody);
     tasks = λ u. rw (at u) (sound-marks (task s u) (n u) (e u) (k .tasks u) (λ z. none u (k .tasks u .blank z)) (rests u));
     levels = lists-same (s .levels) 31 (λ u. levelOf (task s u)) (λ u. levelOf (getD xs u noTask)) (λ u. ap levelOf (at u) ∙ level-marks (task s u) (n u) (e u)) (k .levels);
-    waits = lists-same (s .waits) 21 (λ u. rowOf (task s u)) (λ u. rowOf (getD xs u noTask)) row (k .waits);
+    waits = lists-same (s .waits) 29 (λ u. rowOf (task s u)) (λ u. rowOf (getD xs u noTask)) row (k .waits);
     slices = k .slices;
     charges = λ u. rw (at u) (fits u);
     semaphores = semaphores-of (k .semaphores) (λ m u low top z. k .semaphores .waited m u low top (sym (row u) ∙ z));
     flags = flags-of (k .flags)
         (λ f u low top z. rw (at u) (k .flags .unmet f u low top (sym (row u) ∙ z)))
         (λ f u v low top one y z. k .flags .single f u v low top one (sym (row u) ∙ y) (sym (row v) ∙ z));
+    queues = queues-of (k .queues)
+        (λ q u low top z. rw (at u) (unserved (k .queues) q u low top (sym (row u) ∙ z)))
+        (λ q u v low top y z. rw (at u, at v) (k .queues .alike q u v low top (sym (row u) ∙ y) (sym (row v) ∙ z)));
   }
 
 -- task t has charge n and entered its level at e: no charge, or as the first of its level one below the slice; if dormant, no time of entry
@@ -120,7 +124,7 @@ module _ (s : State) (l v : ℕ) (k : Sound s) where
 
   pub sound-sliced : 1 ≤ l → v ≤ 1000 → Sound (sliced l v s)
   unfolding sliced marked
-  sound-sliced some top = renumbered cleared (sliced l v s .numbers) cleared-sound (resliced (s .numbers .slices) l v (k .slices) some top) charges (cleared-sound .semaphores) (cleared-sound .flags)
+  sound-sliced some top = renumbered cleared (sliced l v s .numbers) cleared-sound (resliced (s .numbers .slices) l v (k .slices) some top) charges (cleared-sound .semaphores) (cleared-sound .flags) (cleared-sound .queues)
     where
       charges : (t : ℕ) → SoundCharge (cleared .levels) (set (s .numbers .slices) l v) t (task cleared t)
       charges t = ⊎-elim
@@ -141,4 +145,5 @@ sound-rotated s l k clear = record {
   charges = λ u. charge-turned (s .levels) (s .numbers .slices) l u (task s u) (λ e. rw (← e) clear) (k .charges u);
   semaphores = k .semaphores;
   flags = k .flags;
+  queues = k .queues;
 }

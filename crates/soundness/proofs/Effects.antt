@@ -1,4 +1,4 @@
--- A task that stops, a semaphore that is deleted, a flag whose waiters are told and a tick leave a sound state sound.
+-- A wait that ends, a task that stops, a semaphore that is deleted, a flag whose waiters are told and a tick leave a sound state sound.
 -- It rests on the changes of Changes, the records of Records and the queues of Told; the tick goes by induction over the tasks it moves.
 use mathlib.Core.Path.{_≡_, refl}
 use mathlib.Core.Bool.{Bool, true, false, cond}
@@ -13,17 +13,18 @@ use Rattle.model.specs.declared.News.{News}
 use Rattle.model.specs.declared.News.the-variants.{Deleted}
 use Rattle.model.specs.Row.{firstOf}
 use Rattle.model.specs.Flag.{isFlagAttributes, isSingle, isMet}
-use Rattle.model.specs.Task.{dormant, activated, aged, levelOf, rowOf}
+use Rattle.model.specs.Task.{served, dormant, activated, ended, aged, levelOf, rowOf}
 use Rattle.model.specs.State.{task, slice, attribute, time, waiters, running, moved, marked, recharged, rotated, withTime}
 use Rattle.model.specs.Effect.{stopped, toldAll, deleted, toldFlag, turnedAt, chargedIn, charged, lapsed, ticked}
+use Rattle.model.specs.Test.{isWaitCode}
 use Rattle.model.specs.Sound.{SoundTask, Sound}
 use Rattle.laws.proofs.Record.{level-marks, level-dormant, flag-row}
 use Rattle.soundness.proofs.Changes.{sound-moved, sound-counted, sound-flagged, sound-withTime}
 use Rattle.soundness.proofs.Charging.{marks-after, sound-marked, entry-rests, sound-rotated}
-use Rattle.soundness.proofs.Records.{Stays, sound-dormant, sound-activated, sound-aged, aged-row}
+use Rattle.soundness.proofs.Records.{Stays, row-live, sound-dormant, sound-activated, sound-ended, sound-aged, aged-row}
 use Rattle.soundness.proofs.Folds.{numbers-told}
 use Rattle.soundness.proofs.Running.{runner}
-use Rattle.soundness.proofs.Told.{may-none, may-same, waiter-in, Told, told-row}
+use Rattle.soundness.proofs.Told.{may-none, may-same, waiter-in, first-waits, Told, told-row, deleted-row}
 
 -- attributes a and bits b fit flag f once those who wait on it were told w
 pub record Tellable (s : State) (f : ℕ) (w : News) (a b : ℕ) : Type 0 where
@@ -31,6 +32,18 @@ pub record Tellable (s : State) (f : ℕ) (w : News) (a b : ℕ) : Type 0 where
   pub none : a ≡ 0 → b ≡ 0
   pub unmet : (x : Task) → SoundTask x → rowOf x ≡ f + 12 → Stays w x → (1 ≤ a) × (isMet (x .wait .pattern) (x .wait .mode) b ≡ false)
   pub single : So (isSingle a) → So (isSingle (attribute s f))
+
+-- ---- a wait ends
+pub sound-ends : (s : State) → Sound s → (t v b : ℕ) → (1 ≤ t) × (t ≤ 24) → 1 ≤ task s t .active → So (isWaitCode v) → Sound (moved t (ended (task s t) v b) s)
+unfolding rowOf
+sound-ends s k t v b r live h = sound-moved s k t (ended (task s t) v b) (r .0) (r .1) (sound-ended (task s t) (k .tasks t) live v b h) (may-none s t (ended (task s t) v b) refl)
+
+-- the first of a row of waiters is live, and is served
+pub sound-served : (s : State) → Sound s → (m : ℕ) → 1 ≤ m → m ≤ 28 → 1 ≤ firstOf (s .waits) m → (b : ℕ) → Sound (moved (firstOf (s .waits) m) (ended (task s (firstOf (s .waits) m)) served b) s)
+sound-served s k m low top some b =
+    let t = firstOf (s .waits) m in
+    let e = first-waits s k m top some in
+    sound-ends s k t served b (waiter-in s k t (omega arith)) (row-live (task s t) (k .tasks t) (omega arith)) tt
 
 -- ---- a task stops
 pub sound-stopped : (s : State) → Sound s → (t : ℕ) → 1 ≤ t → t ≤ 24 → 1 ≤ task s t .base → Sound (stopped t s)
@@ -56,13 +69,9 @@ sound-stopped s k t some top made = go (eqb (task s t .activations) 0)
 -- ---- a semaphore is deleted, or a flag's waiters are told
 pub sound-deleted : (s : State) → Sound s → (m : ℕ) → 1 ≤ m → m ≤ 12 → Sound (deleted m s)
 unfolding deleted
-sound-deleted s k m some top = sound-counted (toldAll Deleted (waiters s m) s) m 0 0 (z .sound) some (omega arith) (omega arith) (λ t e. absurd (nobody t e))
-  where
-    z : Told Deleted m (toldAll Deleted (waiters s m) s)
-    z = told-row Deleted s k m some (omega arith)
-
-    nobody : (t : ℕ) → rowOf (task (toldAll Deleted (waiters s m) s) t) ≡ m → ⊥
-    nobody t e = z .stays t (waiter-in (toldAll Deleted (waiters s m) s) (z .sound) t (omega arith) .0) e
+sound-deleted s k m some top =
+    let z = deleted-row s k m some (omega arith) in
+    sound-counted (toldAll Deleted (waiters s m) s) m 0 0 (z .0) some (omega arith) (omega arith) (λ t e. absurd (z .1 t e))
 
 pub sound-toldFlag : (s : State) → Sound s → (f : ℕ) (w : News) (a b : ℕ) → 1 ≤ f → f ≤ 8 → Tellable s f w a b → Sound (toldFlag f w a b s)
 unfolding toldFlag

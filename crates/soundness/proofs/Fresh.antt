@@ -2,20 +2,22 @@
 -- It rests on `fresh` of model/specs/State and the laws of rows of zeros.
 use mathlib.Core.Path.{_≡_, refl, sym, ap, _∙_, subst}
 use mathlib.Core.Logic.{inl, ⊎-elim}
-use Prim.Native.Nat.{ℕ, _≤_, _<_}
+use Prim.Native.Nat.{ℕ, _*_, _≤_, _<_}
 use native.Mathlib.Omega.{arith}
 use lib.Dec.{T as So}
-use lib.ListN.{length, getD, replicate, length-replicate, getD-replicate, List·getD-eq-default}
+use lib.ListN.{length, getD, drop, replicate, length-replicate, getD-replicate, List·getD-eq-default}
 use Rattle.model.specs.declared.Queue.{Queue}
 use Rattle.model.specs.declared.Task.{Task}
 use Rattle.model.specs.Row.{noQueue, row}
 use Rattle.model.specs.Flag.{isFlagAttributes}
+use Rattle.model.specs.DataQueue.{placesOf}
 use Rattle.model.specs.Task.{noTask, levelOf, rowOf}
 use Rattle.model.specs.State.{fresh, task}
 use Rattle.model.specs.Test.{occ, zeros, listsOnly, padded}
 use Rattle.model.specs.Sound.{Lists, SoundTask, Sound}
 use Rattle.laws.proofs.Number.{below?}
 use Rattle.laws.proofs.Padded.{occ-zeros}
+use Rattle.laws.proofs.Places.{zeros-take, zeros-drop}
 use Rattle.laws.proofs.Record.{sound-none, row-none}
 use Rattle.soundness.proofs.Listed.{listed-none}
 
@@ -44,13 +46,13 @@ lists-nobody n key free = record {
 }
 
 pub sound-fresh : Sound fresh
-unfolding levelOf isFlagAttributes
+unfolding levelOf isFlagAttributes placesOf zeros
 sound-fresh = record {
   tasks# = refl;
   nobody = refl;
   tasks = λ t. subst SoundTask (sym (reads 25 noTask t)) sound-none;
   levels = lists-nobody 31 (λ t. levelOf (task fresh t)) (λ t. ap levelOf (reads 25 noTask t));
-  waits = lists-nobody 21 (λ t. rowOf (task fresh t)) no-row;
+  waits = lists-nobody 29 (λ t. rowOf (task fresh t)) no-row;
   slices = record { slices# = refl; unused = refl; slices = λ l. omega (arith, none 31 l) };
   charges = λ t. inl (ap (λ (x : Task). x .charge) (reads 25 noTask t));
   semaphores = record {
@@ -69,6 +71,20 @@ sound-fresh = record {
     bits = λ f e. none 9 f;
     unmet = λ f t some top e. absurd (omega (arith, no-row t));
     single = λ f t u some top one e. absurd (omega (arith, no-row t));
+  };
+  queues = record {
+    capacities# = refl;
+    taken# = refl;
+    elements# = refl;
+    unused = refl;
+    capacities = λ q. omega (arith, none 9 q);
+    none = λ q e. none 9 q;
+    within = λ q some. absurd (omega (arith, none 9 q));
+    past = λ q top. zeros-drop (getD (replicate 9 0) q 0) (placesOf (replicate 144 0) q) (zeros-take 16 (drop (q * 16) (replicate 144 0)) (zeros-drop (q * 16) (replicate 144 0) tt));
+    waited = λ q t low top e. absurd (omega (arith, no-row t));
+    receives = λ q t low top e. absurd (omega (arith, no-row t));
+    sends = λ q t low top e. absurd (omega (arith, no-row t));
+    alike = λ q t u low top e. absurd (omega (arith, no-row t));
   };
 }
   where

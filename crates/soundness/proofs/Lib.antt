@@ -3,12 +3,14 @@ pub mod Moved
 pub mod Folds
 pub mod Charges
 pub mod Orderly
+pub mod Stocks
 pub mod Changes
 pub mod Charging
 pub mod Records
 pub mod Told
 pub mod Running
 pub mod Effects
+pub mod Queued
 pub mod Changed
 pub mod Accepted
 pub mod Fresh

@@ -2,7 +2,7 @@
 -- It rests on `SoundTask` of model/specs/Sound and the records of model/specs/Task; what a key or a test says of a record stands first.
 use mathlib.Core.Path.{_≡_, refl, ap}
 use mathlib.Core.Bool.{Bool, true, false, cond, not, _&&_}
-use mathlib.Core.Logic.{_⊎_, inl, inr}
+use mathlib.Core.Logic.{_⊎_, inl, inr, ⊎-elim}
 use Prim.Native.Nat.{ℕ, _-_, _≤_}
 use native.Mathlib.Omega.{arith}
 use lib.Dec.{T as So, eqb}
@@ -13,7 +13,7 @@ use Rattle.model.specs.declared.News.{News}
 use Rattle.model.specs.declared.News.the-variants.{Deleted, Bits}
 use Rattle.model.specs.Flag.{isMet}
 use Rattle.model.specs.Task.{nothing, aSleep, served, dlt, isDormant, isSuspended, isWaiting, isAsleep, isRunnable, isTimed, endless, levelOf, rowOf, ranOut, aged, told}
-use Rattle.model.specs.Task.{asleep, onSemaphore, onFlag, dormant, activated, created, withPriority, withSuspended, withWakeups, withActivations, withMarks, withRemaining, waiting, ended}
+use Rattle.model.specs.Task.{asleep, onSemaphore, onFlag, toSend, toReceive, dormant, activated, created, withPriority, withSuspended, withWakeups, withActivations, withMarks, withRemaining, waiting, ended}
 use Rattle.model.specs.Test.{isWaitCode}
 use Rattle.model.specs.Sound.{SoundTask}
 use Rattle.laws.proofs.Padded.{both}
@@ -92,12 +92,12 @@ module _ (x : Task) (k : SoundTask x) (live : 1 ≤ x .active) where
   pub sound-withWakeups : (n : ℕ) → n ≤ 1 → (x .wait .kind ≡ aSleep → n ≡ 0) → SoundTask (withWakeups x n)
   sound-withWakeups n h awake =
       still (withWakeups x n) refl refl priority-now (k .suspended) h (k .activations) (k .code) (k .spare)
-      (record { wait = k .wait; waiting = k .waiting; free = k .free; sleeper = λ e. (awake e, k .sleeper e .1); object = k .object; flag = k .flag }) (ask-of x k)
+      (record { wait = k .wait; waiting = k .waiting; free = k .free; sleeper = λ e. (awake e, k .sleeper e .1); object = k .object; flag = k .flag; queue = k .queue }) (ask-of x k)
 
   pub sound-withRemaining : (d : ℕ) → 1 ≤ d → (x .wait .kind ≡ nothing → ⊥) → SoundTask (withRemaining x d)
   sound-withRemaining d some waits =
       still (withRemaining x d) refl refl priority-now (k .suspended) (k .wakeups) (k .activations) (k .code) (k .spare)
-      (record { wait = k .wait; waiting = λ n. (some, k .waiting n .1, k .waiting n .2); free = λ e. absurd (waits e); sleeper = k .sleeper; object = k .object; flag = k .flag }) (record { asks = k .asks; silent = k .silent })
+      (record { wait = k .wait; waiting = λ n. (some, k .waiting n .1, k .waiting n .2); free = λ e. absurd (waits e); sleeper = k .sleeper; object = k .object; flag = k .flag; queue = k .queue }) (record { asks = k .asks; modeless = k .modeless; silent = k .silent })
 
   pub sound-ended : (v b : ℕ) → So (isWaitCode v) → SoundTask (ended x v b)
   sound-ended v b h =
@@ -109,18 +109,28 @@ module _ (x : Task) (k : SoundTask x) (live : 1 ≤ x .active) where
 
   pub sound-asleep : (d : ℕ) → 1 ≤ d → x .wakeups ≡ 0 → SoundTask (waiting x (asleep d))
   sound-asleep d some none = begins (asleep d) refl
-      (record { wait = inr (inl refl); waiting = λ n. (some, refl, refl); free = λ e. absurd (omega arith); sleeper = λ e. (none, refl); object = λ e. absurd (omega arith); flag = λ e. absurd (omega arith) })
-      (unasked (asleep d) (λ e. omega arith) (refl, refl))
+      (record { wait = inr (inl refl); waiting = λ n. (some, refl, refl); free = λ e. absurd (omega arith); sleeper = λ e. (none, refl); object = λ e. absurd (omega arith); flag = λ e. absurd (omega arith); queue = ⊎-elim (λ e. absurd (omega arith)) (λ e. absurd (omega arith)) })
+      (unasked (asleep d) (λ e. omega arith) refl (λ n. refl))
 
   pub sound-queued : (m d : ℕ) → 1 ≤ m → m ≤ 12 → 1 ≤ d → SoundTask (waiting x (onSemaphore m d))
   sound-queued m d low top some = begins (onSemaphore m d) refl
-      (record { wait = inr (inr (inl refl)); waiting = λ n. (some, refl, refl); free = λ e. absurd (omega arith); sleeper = λ e. absurd (omega arith); object = λ e. (low, top); flag = λ e. absurd (omega arith) })
-      (unasked (onSemaphore m d) (λ e. omega arith) (refl, refl))
+      (record { wait = inr (inr (inl refl)); waiting = λ n. (some, refl, refl); free = λ e. absurd (omega arith); sleeper = λ e. absurd (omega arith); object = λ e. (low, top); flag = λ e. absurd (omega arith); queue = ⊎-elim (λ e. absurd (omega arith)) (λ e. absurd (omega arith)) })
+      (unasked (onSemaphore m d) (λ e. omega arith) refl (λ n. refl))
 
   pub sound-asking : (f p m d : ℕ) → 1 ≤ f → f ≤ 8 → 1 ≤ d → 1 ≤ p → m ≤ 1 → SoundTask (waiting x (onFlag f p m d))
   sound-asking f p m d low top some bits mode = begins (onFlag f p m d) refl
-      (record { wait = inr (inr (inr refl)); waiting = λ n. (some, refl, refl); free = λ e. absurd (omega arith); sleeper = λ e. absurd (omega arith); object = λ e. absurd (omega arith); flag = λ e. (low, top) })
-      (record { asks = λ e. (bits, mode); silent = λ n. absurd (n refl) })
+      (record { wait = inr (inr (inr (inl refl))); waiting = λ n. (some, refl, refl); free = λ e. absurd (omega arith); sleeper = λ e. absurd (omega arith); object = λ e. absurd (omega arith); flag = λ e. (low, top); queue = ⊎-elim (λ e. absurd (omega arith)) (λ e. absurd (omega arith)) })
+      (record { asks = λ e. (bits, mode); modeless = λ n. absurd (n refl); silent = λ n. absurd (n refl) })
+
+  pub sound-sending : (q e d : ℕ) → 1 ≤ q → q ≤ 8 → 1 ≤ d → SoundTask (waiting x (toSend q e d))
+  sound-sending q e d low top some = begins (toSend q e d) refl
+      (record { wait = inr (inr (inr (inr (inl refl)))); waiting = λ n. (some, refl, refl); free = λ e. absurd (omega arith); sleeper = λ e. absurd (omega arith); object = λ e. absurd (omega arith); flag = λ e. absurd (omega arith); queue = λ o. (low, top) })
+      (unasked (toSend q e d) (λ e. omega arith) refl (λ n. absurd (n refl)))
+
+  pub sound-receiving : (q d : ℕ) → 1 ≤ q → q ≤ 8 → 1 ≤ d → SoundTask (waiting x (toReceive q d))
+  sound-receiving q d low top some = begins (toReceive q d) refl
+      (record { wait = inr (inr (inr (inr (inr refl)))); waiting = λ n. (some, refl, refl); free = λ e. absurd (omega arith); sleeper = λ e. absurd (omega arith); object = λ e. absurd (omega arith); flag = λ e. absurd (omega arith); queue = λ o. (low, top) })
+      (unasked (toReceive q d) (λ e. omega arith) refl (λ n. refl))
 
   pub sound-told : (w : News) → SoundTask (told w x)
   unfolding told
@@ -195,9 +205,9 @@ sound-aged x k = go (isTimed x) (eqb (x .wait .remaining) 1) (λ h. both (not (e
         sound-withRemaining x k (waiting-live x k (waits some)) (x .wait .remaining - 1) (omega arith) (waits some)
     go false b timed e = k
 
--- x waits where y does, asking for the same
+-- x waits where y does, for the same and asking for the same
 abbrev pub WaitsAs : Task → Task → Type 0
-WaitsAs x y = (rowOf x ≡ rowOf y) × (x .wait .pattern ≡ y .wait .pattern) × (x .wait .mode ≡ y .wait .mode)
+WaitsAs x y = (rowOf x ≡ rowOf y) × (x .wait .kind ≡ y .wait .kind) × (x .wait .pattern ≡ y .wait .pattern) × (x .wait .mode ≡ y .wait .mode)
 
 -- no tick makes anyone wait
 pub aged-row : (x : Task) → (rowOf (aged x) ≡ 0) ⊎ WaitsAs (aged x) x
@@ -209,5 +219,5 @@ aged-row x = go (isTimed x) (eqb (x .wait .remaining) 1)
 
     go : (a b : Bool) → (rowOf (z a b) ≡ 0) ⊎ WaitsAs (z a b) x
     go true true = inl refl
-    go true false = inr (refl, refl, refl)
-    go false b = inr (refl, refl, refl)
+    go true false = inr (refl, refl, refl, refl)
+    go false b = inr (refl, refl, refl, refl)

@@ -10,6 +10,7 @@ use borrow.Author.Tests.{ne-eqb, eq-eqb}
 use Rattle.model.specs.declared.Task.{Task}
 use Rattle.model.specs.declared.State.{State}
 use Rattle.model.specs.declared.News.{News}
+use Rattle.model.specs.declared.News.the-variants.{Deleted}
 use Rattle.model.specs.Row.{firstOf}
 use Rattle.model.specs.Task.{rowOf, settled, told}
 use Rattle.model.specs.State.{task, time, waiters, moved}
@@ -22,6 +23,7 @@ use Rattle.laws.proofs.Padded.{padded-rest, first-none}
 use Rattle.laws.proofs.Record.{row-none, row-settled}
 use Rattle.soundness.proofs.Listed.{key-of, key-first, listed-in}
 use Rattle.soundness.proofs.Orderly.{sound-orderly, task-in, task-cases}
+use Rattle.soundness.proofs.Stocks.{unserved}
 use Rattle.soundness.proofs.Changes.{MayWait, sound-moved}
 use Rattle.soundness.proofs.Records.{WaitsAs, Stays, stays-marks, told-stays, told-keeps, row-live, sound-told}
 
@@ -31,34 +33,38 @@ may-none s t x e = record {
   waited = λ m some top f. absurd (omega arith);
   unmet = λ i some top f. absurd (omega arith);
   single = λ i u some top one f. absurd (omega arith);
+  unserved = λ q some top f. absurd (omega arith);
+  alike = λ q u some top f. absurd (omega arith);
 }
 
 pub may-same : (s : State) → Sound s → (t : ℕ) (x : Task) → WaitsAs x (task s t) → MayWait s t x
 may-same s k t x e = record {
   waited = λ m some top f. k .semaphores .waited m t some top (sym (e .0) ∙ f);
-  unmet = λ i some top f. rw (e .1, e .2) (k .flags .unmet i t some top (sym (e .0) ∙ f));
+  unmet = λ i some top f. rw (e .2, e .3) (k .flags .unmet i t some top (sym (e .0) ∙ f));
   single = λ i u some top one f g. k .flags .single i u t some top one g (sym (e .0) ∙ f);
+  unserved = λ q some top f. rw (e .1) (unserved (k .queues) q t some top (sym (e .0) ∙ f));
+  alike = λ q u some top f g. k .queues .alike q u t some top g (sym (e .0) ∙ f) ∙ sym (e .1);
 }
 
--- who is listed by a semaphore or a flag is one of the tasks
+-- who is listed by an object is one of the tasks
 pub waiter-in : (s : State) → Sound s → (t : ℕ) → 1 ≤ rowOf (task s t) → (1 ≤ t) × (t ≤ 24)
 waiter-in s k t h = task-in s (sound-orderly k) rowOf row-none t h
 
 -- who stands first in a row of waiters waits there
-pub first-waits : (s : State) → Sound s → (m : ℕ) → m ≤ 20 → 1 ≤ firstOf (s .waits) m → rowOf (task s (firstOf (s .waits) m)) ≡ m
-first-waits s k m top some = key-first (s .waits) 21 (λ t. rowOf (task s t)) (k .waits) m (omega arith) (λ z. omega arith) .1
+pub first-waits : (s : State) → Sound s → (m : ℕ) → m ≤ 28 → 1 ≤ firstOf (s .waits) m → rowOf (task s (firstOf (s .waits) m)) ≡ m
+first-waits s k m top some = key-first (s .waits) 29 (λ t. rowOf (task s t)) (k .waits) m (omega arith) (λ z. omega arith) .1
 
 -- and where nobody stands first, nobody waits
-pub no-waiter : (s : State) → Sound s → (m : ℕ) → 1 ≤ m → m ≤ 20 → firstOf (s .waits) m ≡ 0 → (t : ℕ) → rowOf (task s t) ≡ m → ⊥
+pub no-waiter : (s : State) → Sound s → (m : ℕ) → 1 ≤ m → m ≤ 28 → firstOf (s .waits) m ≡ 0 → (t : ℕ) → rowOf (task s t) ≡ m → ⊥
 no-waiter s k m low top e t f =
     let i = waiter-in s k t (omega arith) .0 in
-    let there : occ t (waiters s m) ≡ 1 = listed-in (s .waits) 21 (λ t. rowOf (task s t)) (k .waits) m t (omega arith) i low f in
+    let there : occ t (waiters s m) ≡ 1 = listed-in (s .waits) 29 (λ t. rowOf (task s t)) (k .waits) m t (omega arith) i low f in
     omega (arith, first-none (waiters s m) (k .waits .ends m (omega arith)) e t i)
 
 -- who stands in a row of waiters is one of the tasks
-pub queued-in : (s : State) → Sound s → (m : ℕ) → m ≤ 20 → (t : ℕ) → 1 ≤ t → 1 ≤ occ t (waiters s m) → t ≤ 24
+pub queued-in : (s : State) → Sound s → (m : ℕ) → m ≤ 28 → (t : ℕ) → 1 ≤ t → 1 ≤ occ t (waiters s m) → t ≤ 24
 queued-in s k m top t low there =
-    let e = key-of (s .waits) 21 (λ t. rowOf (task s t)) (k .waits) m t (omega arith) low there in
+    let e = key-of (s .waits) 29 (λ t. rowOf (task s t)) (k .waits) m t (omega arith) low there in
     waiter-in s k t (omega arith) .1
 
 -- ---- the queue, from its first to its last
@@ -95,7 +101,7 @@ module _ (w : News) (m : ℕ) (some : 1 ≤ m) where
       may : MayWait s t x
       may = ⊎-elim
           (may-none s t x)
-          (λ (z : Stays w (task s t) × (x ≡ task s t)). may-same s (k .sound) t x (ap rowOf (z .1), ap (λ (y : Task). y .wait .pattern) (z .1), ap (λ (y : Task). y .wait .mode) (z .1)))
+          (λ (z : Stays w (task s t) × (x ≡ task s t)). may-same s (k .sound) t x (ap rowOf (z .1), ap (λ (y : Task). y .wait .kind) (z .1), ap (λ (y : Task). y .wait .pattern) (z .1), ap (λ (y : Task). y .wait .mode) (z .1)))
           (told-stays w (task s t))
 
       cases : (P : Task → Type 0) (u : ℕ) → (u ≡ t → P (settled (time s) (task s t) x)) → ((u ≡ t → ⊥) → P (task s u)) → P (task (moved t x s) u)
@@ -123,12 +129,18 @@ module _ (w : News) (m : ℕ) (some : 1 ≤ m) where
       (same? t 0)
 
 -- ---- those in row m
-pub told-row : (w : News) (s : State) → Sound s → (m : ℕ) → 1 ≤ m → m ≤ 20 → Told w m (toldAll w (waiters s m) s)
+pub told-row : (w : News) (s : State) → Sound s → (m : ℕ) → 1 ≤ m → m ≤ 28 → Told w m (toldAll w (waiters s m) s)
 told-row w s k m some top = told-all w m some (waiters s m) s (record {
   sound = k;
   ends = k .waits .ends m (omega arith);
   lives = λ t low there.
-      let e = key-of (s .waits) 21 (λ t. rowOf (task s t)) (k .waits) m t (omega arith) low there .1 in
+      let e = key-of (s .waits) 29 (λ t. rowOf (task s t)) (k .waits) m t (omega arith) low there .1 in
       (queued-in s k m top t low there, row-live (task s t) (k .tasks t) (omega arith));
-  holds = λ t low e. inl (omega (arith, listed-in (s .waits) 21 (λ t. rowOf (task s t)) (k .waits) m t (omega arith) low some e));
+  holds = λ t low e. inl (omega (arith, listed-in (s .waits) 29 (λ t. rowOf (task s t)) (k .waits) m t (omega arith) low some e));
 })
+
+-- whom a deletion is told waits no more
+pub deleted-row : (s : State) → Sound s → (m : ℕ) → 1 ≤ m → m ≤ 28 → Sound (toldAll Deleted (waiters s m) s) × ((t : ℕ) → rowOf (task (toldAll Deleted (waiters s m) s) t) ≡ m → ⊥)
+deleted-row s k m some top =
+    let z = told-row Deleted s k m some top in
+    (z .sound, λ t e. z .stays t (waiter-in (toldAll Deleted (waiters s m) s) (z .sound) t (omega arith) .0) e)

@@ -1,6 +1,6 @@
 -- The test of one task's record says that the record is sound; and a sound record's level is a row of the table of levels.
 -- Rests on Says.
-use mathlib.Core.Path.{_≡_, refl, sym, ap, subst}
+use mathlib.Core.Path.{_≡_, sym, ap, subst}
 use mathlib.Core.Bool.{Bool, true, false, cond, _&&_}
 use mathlib.Core.Logic.{_⊎_, inl, inr, ⊎-elim}
 use Prim.Native.Nat.{ℕ, _≤_}
@@ -8,14 +8,14 @@ use native.Mathlib.Omega.{arith}
 use lib.Dec.{T as So, eqb}
 use Rattle.model.specs.declared.Wait.{Wait}
 use Rattle.model.specs.declared.Task.{Task}
-use Rattle.model.specs.Task.{noWait, noTask, nothing, aSleep, aSemaphore, aFlag, isRunnable, levelOf}
-use Rattle.model.specs.Plan.{isSemaphore, isFlag}
-use Rattle.model.specs.Test.{isNoWait, isBlank, isWaitCode, isResting, isWaitSound, isAskSound, isSpareSound, isTaskSound}
+use Rattle.model.specs.Task.{noWait, noTask, nothing, aSleep, aSemaphore, aFlag, aSend, isQueueWait, isRunnable, levelOf}
+use Rattle.model.specs.Plan.{isSemaphore, isFlag, isQueue}
+use Rattle.model.specs.Test.{isNoWait, isBlank, isWaitCode, isResting, isWaitSound, isAskSound, isTaskSound}
 use Rattle.model.specs.Sound.{SoundTask}
 use Rattle.laws.proofs.Number.{same?}
-use Rattle.laws.proofs.Record.{sound-none}
+use Rattle.laws.proofs.Record.{OnQueue, sound-none}
 use Rattle.laws.proofs.Waits.{SoundAsk, WaitOf, Resting, wait-of, ask-of, sound-of}
-use Rattle.laws.proofs.Says.{Says, says-as, says-same, says-eq, says-le, says-not, says-and, says-implies, says-cond, says-within}
+use Rattle.laws.proofs.Says.{Says, says-as, says-same, says-eq, says-le, says-not, says-and, says-or, says-implies, says-cond, says-within}
 
 -- ---- all zeros
 blank : (base priority active suspended wakeups activations code spare : ℕ) (wait : Wait) (handed charge entered : ℕ)
@@ -58,20 +58,28 @@ says-resting x = says-as
 abbrev Object : Task → Type 0
 Object x =
     (x .wait .kind ≡ aSleep → (x .wait .object ≡ 0) × (x .wakeups ≡ 0))
-    × ((x .wait .kind ≡ aSleep → ⊥) → (x .wait .kind ≡ aSemaphore → (1 ≤ x .wait .object) × (x .wait .object ≤ 12)) × ((x .wait .kind ≡ aSemaphore → ⊥) → (x .wait .kind ≡ aFlag) × ((1 ≤ x .wait .object) × (x .wait .object ≤ 8))))
+    × ((x .wait .kind ≡ aSleep → ⊥) → (x .wait .kind ≡ aSemaphore → (1 ≤ x .wait .object) × (x .wait .object ≤ 12))
+    × ((x .wait .kind ≡ aSemaphore → ⊥) → (x .wait .kind ≡ aFlag → (1 ≤ x .wait .object) × (x .wait .object ≤ 8))
+    × ((x .wait .kind ≡ aFlag → ⊥) → OnQueue x × ((1 ≤ x .wait .object) × (x .wait .object ≤ 8)))))
 
-says-object : (x : Task) → Says (cond (eqb (x .wait .kind) aSleep) (eqb (x .wait .object) 0 && eqb (x .wakeups) 0) (cond (eqb (x .wait .kind) aSemaphore) (isSemaphore (x .wait .object)) (eqb (x .wait .kind) aFlag && isFlag (x .wait .object)))) (Object x)
-says-object x = says-cond says-eq (says-and says-eq says-eq) (says-cond says-eq says-within (says-and says-eq says-within))
+says-object : (x : Task) → Says (cond (eqb (x .wait .kind) aSleep) (eqb (x .wait .object) 0 && eqb (x .wakeups) 0)
+    (cond (eqb (x .wait .kind) aSemaphore) (isSemaphore (x .wait .object)) (cond (eqb (x .wait .kind) aFlag) (isFlag (x .wait .object)) (isQueueWait (x .wait) && isQueue (x .wait .object))))) (Object x)
+says-object x = says-cond says-eq (says-and says-eq says-eq) (says-cond says-eq says-within (says-cond says-eq says-within (says-and (says-or says-eq says-eq) says-within)))
+
+-- what is waited for, where that is none of the first kinds
+abbrev Kind : Task → Type 0
+Kind x = (x .wait .kind ≡ nothing) ⊎ ((x .wait .kind ≡ aSleep) ⊎ ((x .wait .kind ≡ aSemaphore) ⊎ ((x .wait .kind ≡ aFlag) ⊎ OnQueue x)))
 
 says-wait : (x : Task) → Says (isWaitSound x) (WaitOf x)
 says-wait x = says-as
     (λ p. let on : (x .wait .kind ≡ nothing → ⊥) → Object x = λ n. p .1 n .1 .1 .1 in record {
-      wait = ⊎-elim (λ (e : x .wait .kind ≡ nothing). inl e) (λ (n : x .wait .kind ≡ nothing → ⊥). inr (waits (on n))) (same? (x .wait .kind) nothing);
+      wait = kind on (same? (x .wait .kind) nothing) (same? (x .wait .kind) aSleep) (same? (x .wait .kind) aSemaphore) (same? (x .wait .kind) aFlag);
       waiting = λ n. (p .1 n .0, p .1 n .1 .0, p .1 n .1 .1 .0);
       free = λ e. (p .0 e .1, p .0 e .0);
       sleeper = λ e. let q = on (λ k. omega arith) .0 e in (q .1, q .0);
       object = λ e. on (λ k. omega arith) .1 (λ k. omega arith) .0 e;
-      flag = λ e. on (λ k. omega arith) .1 (λ k. omega arith) .1 (λ k. omega arith) .1;
+      flag = λ e. on (λ k. omega arith) .1 (λ k. omega arith) .1 (λ k. omega arith) .0 e;
+      queue = λ o. let far : 4 ≤ x .wait .kind = beyond o in on (λ k. omega arith) .1 (λ k. omega arith) .1 (λ k. omega arith) .1 (λ k. omega arith) .1;
     })
     (λ h. (
       λ e. (h .free e .1, h .free e .0),
@@ -83,7 +91,7 @@ says-wait x = says-as
             w .2,
             (
               λ e. (h .sleeper e .1, h .sleeper e .0),
-              λ d. (h .object, λ c. let e : x .wait .kind ≡ aFlag = last n d c (h .wait) in (e, h .flag e)),
+              λ d. (h .object, λ c. (h .flag, λ b. let o = last n d c b (h .wait) in (o, h .queue o))),
             ),
           ),
         ),
@@ -91,26 +99,31 @@ says-wait x = says-as
     ))
     (says-cond says-eq (says-and says-eq says-eq) (says-and says-le (says-and says-eq (says-and says-eq (says-object x)))))
   where
-    waits : Object x → (x .wait .kind ≡ aSleep) ⊎ ((x .wait .kind ≡ aSemaphore) ⊎ (x .wait .kind ≡ aFlag))
-    waits p = go (same? (x .wait .kind) aSleep) (same? (x .wait .kind) aSemaphore)
-      where
-        go : (x .wait .kind ≡ aSleep) ⊎ (x .wait .kind ≡ aSleep → ⊥) → (x .wait .kind ≡ aSemaphore) ⊎ (x .wait .kind ≡ aSemaphore → ⊥) → (x .wait .kind ≡ aSleep) ⊎ ((x .wait .kind ≡ aSemaphore) ⊎ (x .wait .kind ≡ aFlag))
-        go (inl e) b = inl e
-        go (inr d) (inl e) = inr (inl e)
-        go (inr d) (inr c) = inr (inr (p .1 d .1 c .0))
+    beyond : OnQueue x → 4 ≤ x .wait .kind
+    beyond (inl e) = omega arith
+    beyond (inr e) = omega arith
 
-    last : (x .wait .kind ≡ nothing → ⊥) → (x .wait .kind ≡ aSleep → ⊥) → (x .wait .kind ≡ aSemaphore → ⊥) → (x .wait .kind ≡ nothing) ⊎ ((x .wait .kind ≡ aSleep) ⊎ ((x .wait .kind ≡ aSemaphore) ⊎ (x .wait .kind ≡ aFlag))) → x .wait .kind ≡ aFlag
-    last n d c (inl e) = absurd (n e)
-    last n d c (inr (inl e)) = absurd (d e)
-    last n d c (inr (inr (inl e))) = absurd (c e)
-    last n d c (inr (inr (inr e))) = e
+    kind : ((x .wait .kind ≡ nothing → ⊥) → Object x) → (x .wait .kind ≡ nothing) ⊎ (x .wait .kind ≡ nothing → ⊥) → (x .wait .kind ≡ aSleep) ⊎ (x .wait .kind ≡ aSleep → ⊥)
+        → (x .wait .kind ≡ aSemaphore) ⊎ (x .wait .kind ≡ aSemaphore → ⊥) → (x .wait .kind ≡ aFlag) ⊎ (x .wait .kind ≡ aFlag → ⊥) → Kind x
+    kind on (inl e) b c d = inl e
+    kind on (inr n) (inl e) c d = inr (inl e)
+    kind on (inr n) (inr m) (inl e) d = inr (inr (inl e))
+    kind on (inr n) (inr m) (inr l) (inl e) = inr (inr (inr (inl e)))
+    kind on (inr n) (inr m) (inr l) (inr k) = inr (inr (inr (inr (on n .1 m .1 l .1 k .0))))
 
--- what a flag wait asks for
+    last : (x .wait .kind ≡ nothing → ⊥) → (x .wait .kind ≡ aSleep → ⊥) → (x .wait .kind ≡ aSemaphore → ⊥) → (x .wait .kind ≡ aFlag → ⊥) → Kind x → OnQueue x
+    last n d c b (inl e) = absurd (n e)
+    last n d c b (inr (inl e)) = absurd (d e)
+    last n d c b (inr (inr (inl e))) = absurd (c e)
+    last n d c b (inr (inr (inr (inl e)))) = absurd (b e)
+    last n d c b (inr (inr (inr (inr o)))) = o
+
+-- what a flag wait asks for, and what a sender waits with
 says-ask : (w : Wait) → Says (isAskSound w) (SoundAsk w)
 says-ask w = says-as
-    (λ p. record { asks = λ e. let q = p .0 e in (some (q .0), q .1); silent = p .1 })
-    (λ h. (λ e. (λ z. omega (arith, h .asks e), h .asks e .1), h .silent))
-    (says-cond says-eq (says-and (says-not says-eq) says-le) (says-and says-eq says-eq))
+    (λ p. record { asks = λ e. let q = p .0 e in (some (q .0), q .1); modeless = λ n. p .1 n .1; silent = λ n m. ⊎-elim (λ (e : w .kind ≡ aSend). absurd (m e)) (λ (e : w .pattern ≡ 0). e) (p .1 n .0) })
+    (λ h. (λ e. (λ z. omega (arith, h .asks e), h .asks e .1), λ n. (⊎-elim (λ (e : w .kind ≡ aSend). inl e) (λ (m : w .kind ≡ aSend → ⊥). inr (h .silent n m)) (same? (w .kind) aSend), h .modeless n)))
+    (says-cond says-eq (says-and (says-not says-eq) says-le) (says-and (says-or says-eq says-eq) says-eq))
   where
     some : (w .pattern ≡ 0 → ⊥) → 1 ≤ w .pattern
     some n = omega arith

@@ -21,10 +21,11 @@ use Rattle.model.specs.declared.Context.{Context}
 use Rattle.model.specs.declared.Call.{Call}
 use Rattle.model.specs.Row.{firstOf}
 use Rattle.model.specs.Flag.{flagRow}
+use Rattle.model.specs.DataQueue.{noElements, queueRow}
 use Rattle.model.specs.Task.{served, released, waiting, ended}
-use Rattle.model.specs.State.{fresh, task, count, time, maximum, waiters, running, moved, counted, flagged, sliced, marked, withTime}
+use Rattle.model.specs.State.{fresh, task, count, time, maximum, takenOf, waiters, running, moved, counted, flagged, stocked, sized, sliced, marked, withTime}
 use Rattle.model.specs.Code.{number, isNegative}
-use Rattle.model.specs.Effect.{stopped, toldAll, deleted, toldFlag, charged, ticked, carried}
+use Rattle.model.specs.Effect.{stopped, toldAll, deleted, toldFlag, stored, taken, refilled, removed, charged, ticked, carried}
 use Rattle.model.specs.Call.{step, call}
 use Rattle.model.specs.Sound.{Sound}
 use Rattle.laws.proofs.Number.{same?}
@@ -37,7 +38,7 @@ use Rattle.ways.specs.Entry as Entries
 use Rattle.ways.specs.Entry.{Entry}
 use Rattle.turns.specs.Tally.{reachedBy, isZero, waitsEnded, Tally, begun, noTally, withRelease, withAtOnce, withPolled, entered, tallied, tally}
 use Rattle.turns.specs.Statements.{Balanced, EveryResource, NoneWithout}
-use Rattle.ways.proofs.Done.{Made, Takes, atOnce, byPoll, Done, Way, refuses, accepts}
+use Rattle.ways.proofs.Done.{Made, firstAt, Takes, atOnce, byPoll, Receives, direct, oldest, refills, Done, Way, refuses, accepts}
 use Rattle.ways.proofs.Done.{Done as Ways}
 use Rattle.ways.proofs.Ways.{way}
 use Rattle.turns.proofs.Still.{Charged, only-charged}
@@ -137,8 +138,15 @@ module _ (s : State) (k : Sound s) (m : ℕ) (t : Tally) (a : AccountIn s m t) w
       z : State
       z = counted n (count s n + 1) (maximum s n) s
 
-  after-done : {j : Kind} {i : Entry} {c : Code} {x : Effect} → Done s j i c x → AccountIn (carried s x) m (cond (isZero (number c)) (entered m i (waitsEnded s (carried s x) m 24) t) t)
-  unfolding carried ticked sliced flagged toldFlag
+  -- an element is received
+  receiving : {q v : ℕ} {x : Effect} → Receives s q v x → AccountIn (carried s x) m t
+  unfolding carried taken refilled stocked moved
+  receiving {q} (direct side empty e) = moving (firstAt s q) (ended (task s (firstAt s q)) served 0)
+  receiving {q} (oldest none some e) = stays (taken q s) refl refl a
+  receiving {q} (refills side some e) = stays (refilled q s) refl refl a
+
+  after-done : {v : ℕ} {j : Kind} {i : Entry} {c : Code} {x : Effect} → Done s v j i c x → AccountIn (carried s x) m (cond (isZero (number c)) (entered m i (waitsEnded s (carried s x) m 24) t) t)
+  unfolding carried ticked sliced flagged toldFlag sized stocked stored removed
   after-done Ways.ticks = ticking
   after-done (Ways.exits runs) = numbers (stopped (running s) s) (numbers-stopped s (running s)) a
   after-done (Ways.terminates u low top made) = numbers (stopped u s) (numbers-stopped s u) a
@@ -154,6 +162,11 @@ module _ (s : State) (k : Sound s) (m : ℕ) (t : Tally) (a : AccountIn s m t) w
   after-done (Ways.takes n made left i) = taking n made left i _
   after-done (Ways.flags f b c r) = stays (flagged f b c s) refl refl a
   after-done (Ways.tells f w b c made r) = let z = numbers-told w (waiters s (flagRow f)) s in stays (flagged f b c (toldAll w (waiters s (flagRow f)) s)) (rw z) (rw z) a
+  after-done (Ways.opens q c low top most free) = stays (sized q (c + 1) s) refl refl a
+  after-done (Ways.removes q made) = let z = numbers-told Deleted (waiters s (queueRow q)) s in stays (sized q 0 (stocked q 0 noElements (toldAll Deleted (waiters s (queueRow q)) s))) (rw z) (rw z) a
+  after-done (Ways.hands q e made side) = moving (firstAt s q) (ended (task s (firstAt s q)) served e)
+  after-done (Ways.stores q e made none room) = stays (stored q (takenOf s q + 1) e s) refl refl a
+  after-done (Ways.gets q made r) = receiving r
 
   after : {j : Kind} {i : Entry} {p : Plan} → Way s j i p → AccountIn (carried s (p .effect)) m (cond (isZero (number (p .code))) (entered m i (waitsEnded s (carried s (p .effect)) m 24) t) t)
   unfolding carried

@@ -40,7 +40,7 @@ lapsed-at (suc n) i s t long low top = ⊎-elim
     ∙ ap (λ y. settled (time s) y (aged y)) (task-kept s i (aged (task s i)) t apart))
     (same? i t)
 
--- who waits on a semaphore or a flag waits on, or has run out of time
+-- who waits on an object waits on, or has run out of time
 pub aged-waits : (x : Task) (m : ℕ) → 1 ≤ m → rowOf x ≡ m → (rowOf (aged x) ≡ m) ⊎ ((aged x .wait .kind ≡ nothing) × (aged x .code ≡ timeout))
 unfolding aged rowOf
 aged-waits x m some e = go (isTimed x) (eqb (x .wait .remaining) 1)

@@ -15,18 +15,20 @@ use Rattle.model.specs.declared.News.the-variants.{Deleted}
 use Rattle.model.specs.declared.Effect.{Effect}
 use Rattle.model.specs.declared.Code.{Code}
 use Rattle.model.specs.declared.Code.the-variants.{NoErr}
-use Rattle.model.specs.declared.Effect.the-variants.{Moves, Deletes, Ticks, Tells}
+use Rattle.model.specs.declared.Effect.the-variants.{Moves, Deletes, Ticks}
 use Rattle.model.specs.Row.{place, first, left, row, firstOf, relisted}
+use Rattle.model.specs.Flag.{flagRow}
+use Rattle.model.specs.DataQueue.{queueRow}
 use Rattle.model.specs.Task.{nothing, served, timeout, dlt, released, rowOf, waiting, ended, settled, aged}
-use Rattle.model.specs.State.{task, count, time, maximum, waiters, running, moved, counted, flagged, sliced, marked, withTime}
+use Rattle.model.specs.State.{task, count, time, maximum, takenOf, waiters, running, moved, counted, flagged, stocked, sized, sliced, marked, withTime}
 use Rattle.model.specs.Code.{waitNumber, isRefusal}
-use Rattle.model.specs.Effect.{toldAll, deleted, toldFlag, charged, lapsed, ticked, carried}
+use Rattle.model.specs.Effect.{toldAll, deleted, toldFlag, stored, taken, refilled, removed, charged, lapsed, ticked, carried}
 use Rattle.model.specs.Test.{one, occ}
 use Rattle.model.specs.Sound.{Sound}
 use Rattle.laws.proofs.Number.{same?}
 use Rattle.laws.proofs.Relisted.{row-relisted-from}
 use Rattle.laws.proofs.Occ.{one-eq, one-ne, one-not}
-use Rattle.laws.proofs.Record.{row-waits, row-marks, flag-row}
+use Rattle.laws.proofs.Record.{row-waits, row-marks, flag-row, queue-row}
 use Rattle.soundness.proofs.Listed.{key-of, listed-in}
 use Rattle.soundness.proofs.Told.{waiter-in, first-waits, queued-in, no-waiter}
 use Rattle.soundness.proofs.Running.{runner}
@@ -37,7 +39,7 @@ use Rattle.ways.specs.Entry.{Entry}
 use Rattle.soundness.proofs.Moved.{task-moved, task-marked}
 use Rattle.turns.specs.Statements.{Ended}
 use Rattle.turns.proofs.Places.{place-served}
-use Rattle.ways.proofs.Done.{Done, Way, refuses, accepts}
+use Rattle.ways.proofs.Done.{QueueMade, firstAt, Receives, direct, oldest, refills, Done, Way, refuses, accepts}
 use Rattle.ways.proofs.Done.{Done as Ways}
 use Rattle.turns.proofs.Ends.{lapsed-at, aged-waits, stopped-at, ended-at}
 use Rattle.turns.proofs.Still.{Charged, only-charged, Steady, Keyed, Still, in-table, still-moved, still-stopped, still-told, still-lapsed}
@@ -82,7 +84,7 @@ module _ (s : State) (k : Sound s) (m t : ℕ) (h : 1 ≤ m) (top : m ≤ 12) (e
   moving u x keeps = still-moved on-waits m t low s u x e keeps
 
   listed : occ t (waiters s m) ≡ 1
-  listed = listed-in (s .waits) 21 (λ u. rowOf (task s u)) (k .waits) m t (omega arith) low h e
+  listed = listed-in (s .waits) 29 (λ u. rowOf (task s u)) (k .waits) m t (omega arith) low h e
 
   -- its own wait ends
   over : (u v : ℕ) → u ≡ t → Ended (moved u (ended (task s u) v 0) s) t (waitNumber v)
@@ -118,9 +120,9 @@ module _ (s : State) (k : Sound s) (m t : ℕ) (h : 1 ≤ m) (top : m ≤ 12) (e
       go (inr apart) (inr other) = on (moving u (ended (task s u) served 0) (λ z. absurd (apart z))) (one-ne n m other)
 
   -- those in another row are told
-  others : (w : News) (n : ℕ) → n ≤ 20 → (n ≡ m → ⊥) → Still rowOf (λ z. z .waits) m t s (toldAll w (waiters s n) s)
+  others : (w : News) (n : ℕ) → n ≤ 28 → (n ≡ m → ⊥) → Still rowOf (λ z. z .waits) m t s (toldAll w (waiters s n) s)
   others w n most apart = still-told waiting-on w (waiters s n) s (queued-in s k n most)
-      (λ there. absurd (apart (sym (key-of (s .waits) 21 (λ i. rowOf (task s i)) (k .waits) n t (omega arith) low there .1) ∙ e))) e
+      (λ there. absurd (apart (sym (key-of (s .waits) 29 (λ i. rowOf (task s i)) (k .waits) n t (omega arith) low there .1) ∙ e))) e
 
   deleting : (n : ℕ) → 1 ≤ n → n ≤ 12 → Outcome s m t (deletion n) NoErr (Deletes n)
   unfolding carried deleted counted
@@ -134,11 +136,18 @@ module _ (s : State) (k : Sound s) (m t : ℕ) (h : 1 ≤ m) (top : m ≤ 12) (e
           let a = others Deleted n (omega arith) other in
           on (record { keyed = a .keyed; nearer = a .nearer }) refl
 
-  telling : (f : ℕ) (w : News) (a b : ℕ) → 1 ≤ f → f ≤ 8 → Outcome s m t Kinds.other NoErr (Tells f w a b)
-  unfolding carried toldFlag flagged
-  telling f w a b some most =
-      let z = rw (← flag-row f some most) at (others w (f + 12) (omega arith) (λ y. omega arith)) in
-      on (record { keyed = z .keyed; nearer = z .nearer }) refl
+  -- and with them, who waits first on a data queue is served
+  queue-serving : {q : ℕ} → QueueMade s q → 1 ≤ firstAt s q → (b : ℕ) → Still rowOf (λ z. z .waits) m t s (moved (firstAt s q) (ended (task s (firstAt s q)) served b) s)
+  queue-serving {q} made some b =
+      let r = queue-row q (made .low) (made .top) in
+      let g = first-waits s k (queueRow q) (omega (arith, r, made .top)) some in
+      moving (firstAt s q) (ended (task s (firstAt s q)) served b) (λ z. absurd (omega (arith, r, g, ap (λ i. rowOf (task s i)) z)))
+
+  receiving : {q v : ℕ} {x : Effect} → QueueMade s q → Receives s q v x → Outcome s m t Kinds.other NoErr x
+  unfolding carried taken refilled stocked moved
+  receiving made (direct side empty v) = on (queue-serving made (side .0) 0) refl
+  receiving {q} made (oldest none some v) = on (untouched (taken q s) refl refl) refl
+  receiving made (refills side some v) = let z = queue-serving made (side .0) 0 in on (record { keyed = z .keyed; nearer = z .nearer }) refl
 
   ticking : Outcome s m t Kinds.tick NoErr Ticks
   unfolding carried ticked
@@ -170,8 +179,8 @@ module _ (s : State) (k : Sound s) (m t : ℕ) (h : 1 ≤ m) (top : m ≤ 12) (e
   runs-idle : {A : Type 0} → 1 ≤ running s → 1 ≤ rowOf (task s (running s)) → A
   runs-idle some listed = absurd (omega (arith, row-waits (task s (running s)) listed, runner s k some .idle))
 
-  outcome-done : {j : Kind} {i : Entry} {c : Code} {x : Effect} → Done s j i c x → Outcome s m t j c x
-  unfolding carried counted flagged sliced
+  outcome-done : {v : ℕ} {j : Kind} {i : Entry} {c : Code} {x : Effect} → Done s v j i c x → Outcome s m t j c x
+  unfolding carried counted flagged sliced toldFlag removed stored stocked sized
   outcome-done Ways.ticks = ticking
   outcome-done (Ways.exits some) = let r = runner s k some in on (still-stopped waiting-on s (running s) (r .low) (r .top) (λ z. runs-idle some (rw z (omega arith))) e) refl
   outcome-done (Ways.terminates u some most made) = ⊎-elim
@@ -182,7 +191,7 @@ module _ (s : State) (k : Sound s) (m t : ℕ) (h : 1 ≤ m) (top : m ≤ 12) (e
       (λ (z : u ≡ t). forced tt (ap forcedRelease z) (over u released z))
       (λ (apart : u ≡ t → ⊥). on (moving u (ended (task s u) released 0) (λ z. absurd (apart z))) refl)
       (same? u t)
-  outcome-done (Ways.slices l v some most) = on (untouched (sliced l v s) (task-marked (λ y. rowOf y ≡ rowOf (task s t)) s (firstOf (s .levels) l) 0 (task s (firstOf (s .levels) l) .entered) t (row-marks (task s t))) (unfold marked in refl)) refl
+  outcome-done (Ways.slices l n some most) = on (untouched (sliced l n s) (task-marked (λ y. rowOf y ≡ rowOf (task s t)) s (firstOf (s .levels) l) 0 (task s (firstOf (s .levels) l) .entered) t (row-marks (task s t))) (unfold marked in refl)) refl
   outcome-done (Ways.serves n made some) = serving n (made .top) some
   outcome-done (Ways.raises n made free less) =
       on (untouched (counted n (count s n + 1) (maximum s n) s) refl refl) (one-ne n m (λ y. no-waiter s k m h (omega arith) (rw y at free) t e))
@@ -193,7 +202,18 @@ module _ (s : State) (k : Sound s) (m t : ℕ) (h : 1 ≤ m) (top : m ≤ 12) (e
   outcome-done (Ways.creates n c v some most fits low few free) = on (untouched (counted n c v s) refl refl) refl
   outcome-done (Ways.takes n made left i) = on (untouched (counted n (count s n - 1) (maximum s n) s) refl refl) refl
   outcome-done (Ways.flags f a b r) = on (untouched (flagged f a b s) refl refl) refl
-  outcome-done (Ways.tells f w a b made r) = telling f w a b (made .low) (made .top)
+  outcome-done (Ways.tells f w a b made r) =
+      let n = flag-row f (made .low) (made .top) in
+      let z = others w (flagRow f) (omega (arith, n, made .top)) (λ y. omega (arith, n)) in
+      on (record { keyed = z .keyed; nearer = z .nearer }) refl
+  outcome-done (Ways.opens q c low top most free) = on (untouched (sized q (c + 1) s) refl refl) refl
+  outcome-done (Ways.removes q made) =
+      let n = queue-row q (made .low) (made .top) in
+      let z = others Deleted (queueRow q) (omega (arith, n, made .top)) (λ y. omega (arith, n)) in
+      on (record { keyed = z .keyed; nearer = z .nearer }) refl
+  outcome-done (Ways.hands q e made side) = on (queue-serving made (side .0) e) refl
+  outcome-done (Ways.stores q e made none room) = on (untouched (stored q (takenOf s q + 1) e s) refl refl) refl
+  outcome-done (Ways.gets q made r) = receiving made r
 
   pub outcome : {j : Kind} {i : Entry} {p : Plan} → Way s j i p → Outcome s m t j (p .code) (p .effect)
   unfolding carried

@@ -6,7 +6,8 @@ use Prim.Native.Nat.{ℕ}
 use lib.Dec.{T as So}
 use Rattle.model.specs.declared.Context.{Context}
 use Rattle.model.specs.declared.Call.{Call}
-use Rattle.model.specs.declared.Call.the-variants.{TaskCreate, TaskDelete, TaskActivate, TaskExit, TaskTerminate, TaskSuspend, TaskReleaseWait, SemCreate, SemDelete, SemSignal, SemIsignal, SemAcquire, SemPolling, SemIpolling}
+use Rattle.model.specs.declared.Call.the-variants.{TaskCreate, TaskDelete, TaskActivate, TaskExit, TaskTerminate, TaskSuspend, TaskReleaseWait, SemCreate, SemDelete, SemSignal, SemIsignal, SemAcquire, SemPolling, SemIpolling, OnQueue}
+use Rattle.model.specs.declared.QueueService.the-variants.{Create as QueueCreate, Delete as QueueDelete, Send, ReceivePolling}
 use Rattle.model.specs.State.{fresh}
 use Rattle.model.proofs.Words.{opened}
 use Rattle.turns.specs.Tally.{reachedBy, waitsEnded, tally}
@@ -69,6 +70,9 @@ pages =
     -- each semaphore has an account of its own
     page 1 everyTerm (after (byTask (SemCreate 2 1 1)) (2 ∷ 2 ∷ 1 ∷ 1 ∷ 1 ∷ 1 ∷ []) ∷ after (byTask (SemAcquire 2 9)) (2 ∷ 2 ∷ 1 ∷ 1 ∷ 1 ∷ 1 ∷ []) ∷ []) ∷
     page 2 everyTerm (after (byTask (SemCreate 2 1 1)) (1 ∷ 0 ∷ 1 ∷ 0 ∷ 0 ∷ 0 ∷ []) ∷ after (byTask (SemAcquire 2 9)) (1 ∷ 0 ∷ 0 ∷ 1 ∷ 0 ∷ 0 ∷ []) ∷ []) ∷
+    -- and a data queue of its number has no part in it
+    page 1 everyTerm (after (byTask (OnQueue 1 (QueueCreate 1))) (2 ∷ 2 ∷ 1 ∷ 1 ∷ 1 ∷ 1 ∷ []) ∷ after (byTask (OnQueue 1 (Send 7 9))) (2 ∷ 2 ∷ 1 ∷ 1 ∷ 1 ∷ 1 ∷ []) ∷
+    after (byTask (OnQueue 1 ReceivePolling)) (2 ∷ 2 ∷ 1 ∷ 1 ∷ 1 ∷ 1 ∷ []) ∷ after (byTask (OnQueue 1 QueueDelete)) (2 ∷ 2 ∷ 1 ∷ 1 ∷ 1 ∷ 1 ∷ []) ∷ []) ∷
     -- what is refused is not entered: a release past the maximum, a wrong context, a second creation, a poll of nothing
     page 1 (byTask (SemCreate 1 1 1) ∷ []) (after (byTask (SemSignal 1)) (1 ∷ 0 ∷ 1 ∷ 0 ∷ 0 ∷ 0 ∷ []) ∷ after (byInterrupt (SemPolling 1)) (1 ∷ 0 ∷ 1 ∷ 0 ∷ 0 ∷ 0 ∷ []) ∷
     after (byTask (SemCreate 1 0 1)) (1 ∷ 0 ∷ 1 ∷ 0 ∷ 0 ∷ 0 ∷ []) ∷ after (byTask (SemPolling 1)) (1 ∷ 0 ∷ 0 ∷ 0 ∷ 1 ∷ 0 ∷ []) ∷ after (byTask (SemPolling 1)) (1 ∷ 0 ∷ 0 ∷ 0 ∷ 1 ∷ 0 ∷ []) ∷ []) ∷

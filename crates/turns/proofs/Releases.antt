@@ -30,7 +30,7 @@ module _ (s : State) (m : ℕ) (some : 1 ≤ m) where
   none-of-m : eqb 0 m ≡ false
   none-of-m = ne-eqb 0 m (λ z. omega arith)
 
-  alike-done : {j : Kind} {i : Entry} {c : Code} {x : Effect} → Done s j i c x → not (isRefusal c) && isReleaseOf m j ≡ isZero (number c) && eqb (releasedBy i) m
+  alike-done : {v : ℕ} {j : Kind} {i : Entry} {c : Code} {x : Effect} → Done s v j i c x → not (isRefusal c) && isReleaseOf m j ≡ isZero (number c) && eqb (releasedBy i) m
   alike-done Ways.ticks = sym none-of-m
   alike-done (Ways.exits runs) = sym none-of-m
   alike-done (Ways.terminates u low top made) = sym none-of-m
@@ -47,6 +47,11 @@ module _ (s : State) (m : ℕ) (some : 1 ≤ m) where
   alike-done (Ways.takes n made left byPoll) = sym none-of-m
   alike-done (Ways.flags f b c r) = sym none-of-m
   alike-done (Ways.tells f w b c made t) = sym none-of-m
+  alike-done (Ways.opens q c low top most free) = sym none-of-m
+  alike-done (Ways.removes q made) = sym none-of-m
+  alike-done (Ways.hands q e made side) = sym none-of-m
+  alike-done (Ways.stores q e made none room) = sym none-of-m
+  alike-done (Ways.gets q made r) = sym none-of-m
 
   alike : {j : Kind} {i : Entry} {p : Plan} → Way s j i p → not (isRefusal (p .code)) && isReleaseOf m j ≡ isZero (number (p .code)) && eqb (releasedBy i) m
   alike {j} {i} (refuses c n d) = refused-neither (number c) (isReleaseOf m j) (eqb (releasedBy i) m) n

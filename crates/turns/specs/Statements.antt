@@ -50,7 +50,7 @@ unfoldable pub releases : Kernel → State → List (Context × Call) → ℕ �
 releases k s [] m = 0
 releases k s (a ∷ rest) m = one (isRelease k s a m) + releases k (next k s a) rest m
 
--- t waits on semaphore m, which is 1 to 12: the table's rows past these are the flags'
+-- t waits on semaphore m, which is 1 to 12: the table's rows past these are the flags' and the data queues'
 abbrev pub WaitsOn : State → ℕ → ℕ → Type 0
 WaitsOn s m t = rowOf (task s t) ≡ m
 

@@ -13,7 +13,7 @@ use Rattle.model.specs.Task.{served, isWaiting, rowOf}
 use Rattle.model.specs.State.{task}
 use Rattle.model.specs.Code.{number}
 use Rattle.model.specs.Test.{one}
-use Rattle.ways.specs.Entry.{Entry, creation, deletion, release, acquisition, poll, none, entry}
+use Rattle.ways.specs.Entry.{Entry, creation, deletion, release, acquisition, poll, opening, closing, receiving, sending, none, entry}
 
 -- a kernel answers each call that comes to a state
 abbrev pub Kernel : Type 0
@@ -32,6 +32,10 @@ releasedBy (deletion m) = 0
 releasedBy (release m) = m
 releasedBy (acquisition m) = 0
 releasedBy (poll m) = 0
+releasedBy (opening q) = 0
+releasedBy (closing q) = 0
+releasedBy (receiving q) = 0
+releasedBy (sending q e) = 0
 releasedBy none = 0
 
 -- it is answered with 0
@@ -84,6 +88,10 @@ entered m (deletion n) h t = cond (eqb n m) noTally t
 entered m (release n) h t = cond (eqb n m) (withRelease t h) t
 entered m (acquisition n) h t = cond (eqb n m) (withAtOnce t) t
 entered m (poll n) h t = cond (eqb n m) (withPolled t) t
+entered m (opening q) h t = t
+entered m (closing q) h t = t
+entered m (receiving q) h t = t
+entered m (sending q e) h t = t
 entered m none h t = t
 
 -- a call answered with 0 is entered; one that is refused is not, nor an acquire that waits

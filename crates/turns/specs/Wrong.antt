@@ -7,7 +7,7 @@ use Rattle.model.specs.declared.State.{State}
 use Rattle.model.specs.declared.Answer.{Answer}
 use Rattle.model.specs.State.{count, maximum, counted}
 use Rattle.model.specs.Call.{step}
-use Rattle.ways.specs.Entry.{Entry, creation, deletion, release, acquisition, poll, none, entry}
+use Rattle.ways.specs.Entry.{Entry, creation, deletion, release, acquisition, poll, opening, closing, receiving, sending, none, entry}
 use Rattle.turns.specs.Tally.{Kernel, releasedBy, waitsEnded}
 
 -- the answer, with another state
@@ -20,6 +20,10 @@ isPoll (deletion m) = false
 isPoll (release m) = false
 isPoll (acquisition m) = false
 isPoll (poll m) = true
+isPoll (opening q) = false
+isPoll (closing q) = false
+isPoll (receiving q) = false
+isPoll (sending q e) = false
 isPoll none = false
 
 -- a release raises the count as well as waking a waiter

@@ -13,13 +13,16 @@ use Rattle.model.specs.declared.News.the-variants.{Deleted, Bits}
 use Rattle.model.specs.declared.Plan.{Plan}
 use Rattle.model.specs.declared.Effect.{Effect}
 use Rattle.model.specs.declared.Effect.the-variants.{Nothing, Moves, Stops, Counts, Deletes, Slices, Ticks, Flags, Tells}
+use Rattle.model.specs.declared.Effect.the-variants.{Queues, Removes, Stores, Takes as TakesOldest, Refills}
 use Rattle.model.specs.declared.Code.{Code}
 use Rattle.model.specs.declared.Code.the-variants.{NoErr, Pending, WContext, WrongParam, NoExs}
+use lib.ListN.{getD}
 use Rattle.model.specs.Row.{firstOf}
 use Rattle.model.specs.Flag.{isAttributes, isMet, withoutBits, bitsLeft}
-use Rattle.model.specs.Task.{aSleep, served, released, asleep, onSemaphore, onFlag}
+use Rattle.model.specs.DataQueue.{queueRow}
+use Rattle.model.specs.Task.{aSleep, aSend, aReceive, served, released, asleep, onSemaphore, onFlag, toSend, toReceive}
 use Rattle.model.specs.Task.{noTask, activated, created, withPriority, withSuspended, withWakeups, withActivations, waiting, ended}
-use Rattle.model.specs.State.{task, count, maximum, attribute, bitsOf, flag, running}
+use Rattle.model.specs.State.{task, count, maximum, attribute, bitsOf, flag, capacityOf, takenOf, elementsOf, running}
 use Rattle.model.specs.Code.{number, isRefusal}
 use Rattle.model.specs.Plan.{answers, refused, need, checked}
 use Rattle.model.specs.Service.{wanted, isOccupied}
@@ -28,7 +31,7 @@ use Rattle.laws.proofs.Says.{Says, says-same}
 use Rattle.ways.specs.Kind as Kinds
 use Rattle.ways.specs.Kind.{Kind, other, forcedRelease, setSlice, release, deletion}
 use Rattle.ways.specs.Entry as Entries
-use Rattle.ways.specs.Entry.{Entry, creation, acquisition, poll, none}
+use Rattle.ways.specs.Entry.{Entry, creation, acquisition, poll, opening, closing, receiving, sending, none}
 
 -- ---- what is named
 -- task t is one of the 24, or the one that runs
@@ -48,6 +51,20 @@ pub record FlagMade (s : State) (f : ℕ) : Type 0 where
   pub top : f ≤ 8
   pub made : 1 ≤ attribute s f
 
+-- data queue q is one of the 8, and exists
+pub record QueueMade (s : State) (q : ℕ) : Type 0 where
+  pub low : 1 ≤ q
+  pub top : q ≤ 8
+  pub made : 1 ≤ capacityOf s q
+
+-- the first who waits on data queue q
+abbrev pub firstAt : State → ℕ → ℕ
+firstAt s q = firstOf (s .waits) (queueRow q)
+
+-- somebody waits there, for this: to send or to receive
+abbrev pub Side : State → ℕ → ℕ → Type 0
+Side s v q = (1 ≤ firstAt s q) × (task s (firstAt s q) .wait .kind ≡ v)
+
 -- ---- what is done
 -- the record that task t gets
 pub data Change (s : State) (t : ℕ) : Task → Type 0 where
@@ -62,11 +79,13 @@ pub data Change (s : State) (t : ℕ) : Task → Type 0 where
   countsWakeup : 1 ≤ task s t .active → (task s t .wait .kind ≡ aSleep → ⊥) → Change s t (withWakeups (task s t) 1)
   prioritises : (p : ℕ) → p ≤ 30 → 1 ≤ task s t .base → 1 ≤ task s t .active → Change s t (withPriority (task s t) (wanted p (task s t)))
 
--- what the running task begins to wait for
-pub data Begins (s : State) : Wait → Type 0 where
-  sleeps : (d : ℕ) → 1 ≤ d → task s (running s) .wakeups ≡ 0 → Begins s (asleep d)
-  queues : (m d : ℕ) → Made s m → 1 ≤ d → count s m ≡ 0 → Begins s (onSemaphore m d)
-  asks : (f p m d : ℕ) → FlagMade s f → 1 ≤ p → m ≤ 1 → 1 ≤ d → So (not (isOccupied (flag s f))) → isMet p m (bitsOf s f) ≡ false → Begins s (onFlag f p m d)
+-- what the running task begins to wait for, and what that is to a ledger
+pub data Begins (s : State) : Entry → Wait → Type 0 where
+  sleeps : (d : ℕ) → 1 ≤ d → task s (running s) .wakeups ≡ 0 → Begins s none (asleep d)
+  queues : (m d : ℕ) → Made s m → 1 ≤ d → count s m ≡ 0 → Begins s (acquisition m) (onSemaphore m d)
+  asks : (f p m d : ℕ) → FlagMade s f → 1 ≤ p → m ≤ 1 → 1 ≤ d → So (not (isOccupied (flag s f))) → isMet p m (bitsOf s f) ≡ false → Begins s none (onFlag f p m d)
+  sends : (q e d : ℕ) → QueueMade s q → 1 ≤ d → (Side s aReceive q → ⊥) → capacityOf s q ≤ takenOf s q + 1 → Begins s (sending q e) (toSend q e d)
+  receives : (q d : ℕ) → QueueMade s q → 1 ≤ d → (Side s aSend q → ⊥) → takenOf s q ≡ 0 → Begins s (receiving q) (toReceive q d)
 
 -- an entry that takes a resource of m
 pub data Takes (m : ℕ) : Entry → Type 0 where
@@ -84,26 +103,38 @@ pub data Tell (s : State) (f : ℕ) : News → ℕ → ℕ → Type 0 where
   deletes : Tell s f Deleted 0 0
   sets : (b : ℕ) (met : Bool) → Tell s f (Bits b) (attribute s f) (bitsLeft (attribute s f) met b)
 
--- ---- what an accepted call does, by its kind, its entry in the tallies and its code
-pub data Done (s : State) : Kind → Entry → Code → Effect → Type 0 where
-  ticks : Done s Kinds.tick none NoErr Ticks
-  exits : 1 ≤ running s → Done s Kinds.exit none NoErr (Stops (running s))
-  terminates : (u : ℕ) → 1 ≤ u → u ≤ 24 → 1 ≤ task s u .base → Done s (Kinds.terminate u) none NoErr (Stops u)
-  forces : (u : ℕ) → 1 ≤ u → u ≤ 24 → 1 ≤ task s u .wait .kind → Done s (forcedRelease u) none NoErr (Moves u (ended (task s u) released 0))
-  slices : (l v : ℕ) → 1 ≤ l → v ≤ 1000 → Done s (setSlice l) none NoErr (Slices l v)
+-- an element v that is received: the one that the first sender waits with, where none is stored; else the oldest, and the first sender's goes in last
+pub data Receives (s : State) (q v : ℕ) : Effect → Type 0 where
+  direct : Side s aSend q → takenOf s q ≡ 0 → task s (firstAt s q) .wait .pattern ≡ v → Receives s q v (Moves (firstAt s q) (ended (task s (firstAt s q)) served 0))
+  oldest : (Side s aSend q → ⊥) → 1 ≤ takenOf s q → getD (elementsOf s q) 0 0 ≡ v → Receives s q v (TakesOldest q)
+  refills : Side s aSend q → 1 ≤ takenOf s q → getD (elementsOf s q) 0 0 ≡ v → Receives s q v (Refills q)
+
+-- ---- what an accepted call does, by the value that it gives, its kind, its entry in the tallies and ledgers, and its code
+pub data Done (s : State) (v : ℕ) : Kind → Entry → Code → Effect → Type 0 where
+  ticks : Done s v Kinds.tick none NoErr Ticks
+  exits : 1 ≤ running s → Done s v Kinds.exit none NoErr (Stops (running s))
+  terminates : (u : ℕ) → 1 ≤ u → u ≤ 24 → 1 ≤ task s u .base → Done s v (Kinds.terminate u) none NoErr (Stops u)
+  forces : (u : ℕ) → 1 ≤ u → u ≤ 24 → 1 ≤ task s u .wait .kind → Done s v (forcedRelease u) none NoErr (Moves u (ended (task s u) released 0))
+  slices : (l n : ℕ) → 1 ≤ l → n ≤ 1000 → Done s v (setSlice l) none NoErr (Slices l n)
   -- a release: the first waiter is served, or else the count goes up
   serves : (m : ℕ) → Made s m → 1 ≤ firstOf (s .waits) m
-      → Done s (release m) (Entries.release m) NoErr (Moves (firstOf (s .waits) m) (ended (task s (firstOf (s .waits) m)) served 0))
-  raises : (m : ℕ) → Made s m → firstOf (s .waits) m ≡ 0 → count s m < maximum s m → Done s (release m) (Entries.release m) NoErr (Counts m (count s m + 1) (maximum s m))
-  deletes : (m : ℕ) → Made s m → Done s (deletion m) (Entries.deletion m) NoErr (Deletes m)
+      → Done s v (release m) (Entries.release m) NoErr (Moves (firstOf (s .waits) m) (ended (task s (firstOf (s .waits) m)) served 0))
+  raises : (m : ℕ) → Made s m → firstOf (s .waits) m ≡ 0 → count s m < maximum s m → Done s v (release m) (Entries.release m) NoErr (Counts m (count s m + 1) (maximum s m))
+  deletes : (m : ℕ) → Made s m → Done s v (deletion m) (Entries.deletion m) NoErr (Deletes m)
   -- any other call lets those who wait on semaphores wait as they did
-  keeps : Done s other none NoErr Nothing
-  moves : (t : ℕ) (x : Task) → Named s t → Change s t x → Done s other none NoErr (Moves t x)
-  waits : {i : Entry} (w : Wait) → 1 ≤ running s → Begins s w → Done s other i Pending (Moves (running s) (waiting (task s (running s)) w))
-  creates : (m n v : ℕ) → 1 ≤ m → m ≤ 12 → n ≤ v → 1 ≤ v → v ≤ 65535 → maximum s m ≡ 0 → Done s other (creation m n) NoErr (Counts m n v)
-  takes : {i : Entry} (m : ℕ) → Made s m → 1 ≤ count s m → Takes m i → Done s other i NoErr (Counts m (count s m - 1) (maximum s m))
-  flags : (f a b : ℕ) → Reflag s f a b → Done s other none NoErr (Flags f a b)
-  tells : (f : ℕ) (w : News) (a b : ℕ) → FlagMade s f → Tell s f w a b → Done s other none NoErr (Tells f w a b)
+  keeps : Done s v other none NoErr Nothing
+  moves : (t : ℕ) (x : Task) → Named s t → Change s t x → Done s v other none NoErr (Moves t x)
+  waits : {i : Entry} (w : Wait) → 1 ≤ running s → Begins s i w → Done s v other i Pending (Moves (running s) (waiting (task s (running s)) w))
+  creates : (m n top : ℕ) → 1 ≤ m → m ≤ 12 → n ≤ top → 1 ≤ top → top ≤ 65535 → maximum s m ≡ 0 → Done s v other (creation m n) NoErr (Counts m n top)
+  takes : {i : Entry} (m : ℕ) → Made s m → 1 ≤ count s m → Takes m i → Done s v other i NoErr (Counts m (count s m - 1) (maximum s m))
+  flags : (f a b : ℕ) → Reflag s f a b → Done s v other none NoErr (Flags f a b)
+  tells : (f : ℕ) (w : News) (a b : ℕ) → FlagMade s f → Tell s f w a b → Done s v other none NoErr (Tells f w a b)
+  -- data queues
+  opens : (q c : ℕ) → 1 ≤ q → q ≤ 8 → c ≤ 16 → capacityOf s q ≡ 0 → Done s v other (opening q) NoErr (Queues q (c + 1))
+  removes : (q : ℕ) → QueueMade s q → Done s v other (closing q) NoErr (Removes q)
+  hands : (q e : ℕ) → QueueMade s q → Side s aReceive q → Done s v other (sending q e) NoErr (Moves (firstAt s q) (ended (task s (firstAt s q)) served e))
+  stores : (q e : ℕ) → QueueMade s q → (Side s aReceive q → ⊥) → takenOf s q + 1 < capacityOf s q → Done s v other (sending q e) NoErr (Stores q (takenOf s q + 1) e)
+  gets : {x : Effect} (q : ℕ) → QueueMade s q → Receives s q v x → Done s v other (receiving q) NoErr x
 
 -- ---- a plan's ways
 abbrev pub oneDigit : ℤ → Bool
@@ -112,7 +143,7 @@ oneDigit (negsuc n) = ltb n 9
 
 pub data Way (s : State) (k : Kind) (i : Entry) : Plan → Type 0 where
   refuses : (c : Code) → So (isRefusal c) → So (oneDigit (number c)) → Way s k i (refused c)
-  accepts : (c : Code) (v : ℕ) (x : Effect) → So (not (isRefusal c)) → So (oneDigit (number c)) → Done s k i c x → Way s k i (record { code = c; value = v; effect = x })
+  accepts : (c : Code) (v : ℕ) (x : Effect) → So (not (isRefusal c)) → So (oneDigit (number c)) → Done s v k i c x → Way s k i (record { code = c; value = v; effect = x })
 
 module _ {s : State} {k : Kind} {i : Entry} where
   pub digit : {p : Plan} → Way s k i p → So (oneDigit (number (p .code)))
@@ -120,10 +151,10 @@ module _ {s : State} {k : Kind} {i : Entry} where
   digit (accepts c v x n d done) = d
 
   -- ---- the tests of a plan
-  pub done : {x : Effect} (v : ℕ) → Done s k i NoErr x → Way s k i (record { code = NoErr; value = v; effect = x })
+  pub done : {x : Effect} (v : ℕ) → Done s v k i NoErr x → Way s k i (record { code = NoErr; value = v; effect = x })
   done {x} v d = accepts NoErr v x tt tt d
 
-  pub pending : {x : Effect} → Done s k i Pending x → Way s k i (answers Pending x)
+  pub pending : {x : Effect} → Done s 0 k i Pending x → Way s k i (answers Pending x)
   pending {x} d = accepts Pending 0 x tt tt d
 
   pub needs : {b : Bool} {A : Type 0} → Says b A → (c : Code) (p : Plan) → So (isRefusal c && oneDigit (number c)) → (A → Way s k i p) → Way s k i (need b c p)

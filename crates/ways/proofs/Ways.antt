@@ -7,20 +7,23 @@ use Rattle.model.specs.declared.State.{State}
 use Rattle.model.specs.declared.Context.{Context}
 use Rattle.model.specs.declared.Call.{Call}
 use Rattle.model.specs.declared.Call.the-variants.{TaskCreate, TaskDelete, TaskActivate, TaskIactivate, TaskExit, TaskTerminate, TaskSuspend, TaskResume, TaskSleep, TaskWakeup, TaskIwakeup, TaskReleaseWait, TaskIreleaseWait, TaskChangePriority}
-use Rattle.model.specs.declared.Call.the-variants.{SysTsliceTicks, TickIntProcessing, SemCreate, SemDelete, SemSignal, SemIsignal, SemAcquire, SemPolling, SemIpolling, OnFlag, ReadyTicks}
+use Rattle.model.specs.declared.Call.the-variants.{SysTsliceTicks, TickIntProcessing, SemCreate, SemDelete, SemSignal, SemIsignal, SemAcquire, SemPolling, SemIpolling, OnFlag, ReadyTicks, OnQueue}
 use Rattle.model.specs.declared.FlagService.{FlagService}
 use Rattle.model.specs.declared.FlagService.the-variants.{Create, Delete, Set, Iset, Clear, Iclear, Wait, WaitPolling, Iwait}
+use Rattle.model.specs.declared.QueueService.{QueueService}
+use Rattle.model.specs.declared.QueueService.the-variants.{Create as QueueCreate, Delete as QueueDelete, Send, SendPolling, IsendPolling, Receive, ReceivePolling, Ireceive}
 use Rattle.model.specs.Row.{firstOf}
 use Rattle.model.specs.Flag.{flagRow}
-use Rattle.model.specs.State.{task, time, semaphore, flag, running}
+use Rattle.model.specs.State.{task, time, semaphore, flag, dataQueue, running}
 use Rattle.model.specs.Code.{number}
 use Rattle.model.specs.Services.{isMine}
-use Rattle.model.specs.Call.{objectOf, flagSubject, subject, flagPlan, plan, planned, step}
+use Rattle.model.specs.Call.{objectOf, flagSubject, subject, flagPlan, queuePlan, plan, planned, step}
 use Rattle.ways.specs.Kind.{other, kind}
-use Rattle.ways.specs.Entry.{none, entry}
+use Rattle.ways.specs.Entry.{none, queueEntry, entry}
 use Rattle.ways.proofs.Done.{Way, oneDigit, digit}
 use Rattle.ways.proofs.Tasks.{way-create, way-delete, way-activate, way-exit, way-terminate, way-suspend, way-resume, way-sleep, way-wakeup, way-releaseWait, way-changePriority, way-readyTicks, way-tsliceTicks, way-tick}
 use Rattle.ways.proofs.Objects.{way-semCreate, way-semDelete, way-signal, way-acquire, way-polling, way-flagCreate, way-flagDelete, way-flagSet, way-flagClear, way-flagWait, way-flagPoll}
+use Rattle.ways.proofs.Queues.{way-queueCreate, way-queueDelete, way-queueSend, way-queueSendPoll, way-queueReceive, way-queueReceivePoll}
 
 way-flag : (s : State) (mine : Bool) (f : ℕ) (e : FlagService) → Way s other none (flagPlan mine f e (running s) (task s (flagSubject e (running s) (firstOf (s .waits) (flagRow f)))) (flag s f))
 unfolding flagPlan
@@ -34,8 +37,19 @@ way-flag s mine f (Wait p m d) = way-flagWait s mine f p m d
 way-flag s mine f (WaitPolling p m) = way-flagPoll s mine f p m
 way-flag s mine f (Iwait p m) = way-flagPoll s mine f p m
 
+way-queue : (s : State) (mine : Bool) (q : ℕ) (e : QueueService) → Way s other (queueEntry q e) (queuePlan mine q e (running s) (task s (running s)) (dataQueue s q))
+unfolding queuePlan
+way-queue s mine q (QueueCreate c) = way-queueCreate s mine q c
+way-queue s mine q QueueDelete = way-queueDelete s mine q
+way-queue s mine q (Send e d) = way-queueSend s mine q e d
+way-queue s mine q (SendPolling e) = way-queueSendPoll s mine q e
+way-queue s mine q (IsendPolling e) = way-queueSendPoll s mine q e
+way-queue s mine q (Receive d) = way-queueReceive s mine q d
+way-queue s mine q ReceivePolling = way-queueReceivePoll s mine q
+way-queue s mine q Ireceive = way-queueReceivePoll s mine q
+
 way-plan : (s : State) (mine : Bool) (a : Call)
-    → Way s (kind a) (entry a) (plan mine a (running s) (time s) (task s (subject a (running s) (firstOf (s .waits) (objectOf a)) (firstOf (s .waits) (flagRow (objectOf a))))) (semaphore s (objectOf a)) (flag s (objectOf a)))
+    → Way s (kind a) (entry a) (plan mine a (running s) (time s) (task s (subject a (running s) (firstOf (s .waits) (objectOf a)) (firstOf (s .waits) (flagRow (objectOf a))))) (semaphore s (objectOf a)) (flag s (objectOf a)) (dataQueue s (objectOf a)))
 unfolding plan
 way-plan s mine (TaskCreate t p o) = way-create s mine t p o
 way-plan s mine (TaskDelete t) = way-delete s mine t
@@ -62,6 +76,7 @@ way-plan s mine (SemPolling m) = way-polling s mine m
 way-plan s mine (SemIpolling m) = way-polling s mine m
 way-plan s mine (OnFlag f e) = way-flag s mine f e
 way-plan s mine (ReadyTicks t) = way-readyTicks s mine t
+way-plan s mine (OnQueue q e) = way-queue s mine q e
 
 pub way : (s : State) (c : Context) (a : Call) → Way s (kind a) (entry a) (planned s c a)
 unfolding planned

@@ -5,7 +5,7 @@ use Prim.Native.Nat.{ℕ}
 use lib.Dec.{eqb}
 use Rattle.model.specs.declared.Call.{Call}
 use Rattle.model.specs.declared.Call.the-variants.{TaskCreate, TaskDelete, TaskActivate, TaskIactivate, TaskExit, TaskTerminate, TaskSuspend, TaskResume, TaskSleep, TaskWakeup, TaskIwakeup, TaskReleaseWait, TaskIreleaseWait, TaskChangePriority}
-use Rattle.model.specs.declared.Call.the-variants.{SysTsliceTicks, TickIntProcessing, SemCreate, SemDelete, SemSignal, SemIsignal, SemAcquire, SemPolling, SemIpolling, OnFlag, ReadyTicks}
+use Rattle.model.specs.declared.Call.the-variants.{SysTsliceTicks, TickIntProcessing, SemCreate, SemDelete, SemSignal, SemIsignal, SemAcquire, SemPolling, SemIpolling, OnFlag, ReadyTicks, OnQueue}
 
 pub data Kind : Type 0 where
   tick exit other : Kind
@@ -41,6 +41,7 @@ kind (SemPolling m) = other
 kind (SemIpolling m) = other
 kind (OnFlag f e) = other
 kind (ReadyTicks t) = other
+kind (OnQueue q e) = other
 
 abbrev pub isTick : Kind → Bool
 isTick tick = true

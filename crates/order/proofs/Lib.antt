@@ -1,0 +1,11 @@
+pub mod Lists
+pub mod Entries
+pub mod Listing
+pub mod Moving
+pub mod Kept
+pub mod Sides
+pub mod Stock
+pub mod Others
+pub mod Own
+pub mod Ordered
+pub mod InOrder

@@ -1,0 +1,4 @@
+pub mod Lists
+pub mod Ledger
+pub mod Statements
+pub mod Wrong
