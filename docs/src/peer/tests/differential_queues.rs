@@ -27,7 +27,7 @@ fn call_on(rng: &mut Rng, queue: u32) -> Call {
 fn every_stock_damaged() {
     let mut world = World::new(24);
     let (mut states, mut sound) = (0, 0);
-    for seed in 8_200..8_400 {
+    for seed in 8_200..8_600 {
         let (run, state) = reached(seed);
         for damage in stocks(&state) {
             let last = match states % 4 {
@@ -65,7 +65,7 @@ fn every_stock_and_every_service() {
     let mut rng = Rng::new(25);
     let empty = |state: &State, queue: usize| state.queue_waiters(queue)[0] == 0;
     let mut states = 0;
-    for seed in 8_400..8_410 {
+    for seed in 8_600..8_610 {
         let (run, state): (Run, State) = reached(seed);
         let Some(queue) = (1..QUEUE_PLACES).rev().find(|&queue| empty(&state, queue)) else { continue };
         for (capacity, taken) in (0..=16).flat_map(|capacity| (0..=capacity).map(move |taken| (capacity, taken))) {
