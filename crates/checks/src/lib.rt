@@ -4,7 +4,7 @@ ghost use mathlib.Core.Path.{_≡_};
 ghost use Rattle.model.specs.declared.Code.the-variants.{Pending};
 ghost use Rattle.model.specs.declared.Effect.the-variants.{Moves, Counts, Flags};
 ghost use Rattle.model.specs.Flag.{isAttributes};
-ghost use Rattle.model.specs.Plan.{within, isTask, isPriority, isSemaphore, isMaximum, isTimeout, isSlice, isFlag, does, answers, gives, refused};
+ghost use Rattle.model.specs.Plan.{within, isTask, isPriority, isSemaphore, isMaximum, isTimeout, isSlice, isFlag, isQueue, does, answers, gives, refused};
 ghost use Rattle.checks.specs.Gate.{gate};
 use model::Code;
 use model::Effect;
@@ -62,6 +62,12 @@ pub fn is_flag(f: u32) -> bool
     ensures { λ r. ⌜ r ≡ isFlag f ⌝ }
 {
     within(1, f, 8)
+}
+
+pub fn is_queue(q: u32) -> bool
+    ensures { λ r. ⌜ r ≡ isQueue q ⌝ }
+{
+    within(1, q, 8)
 }
 
 pub fn is_attributes(n: u32) -> bool

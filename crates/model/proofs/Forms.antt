@@ -5,8 +5,9 @@ use Prim.Native.Nat.{ℕ}
 use Rattle.model.specs.declared.State.{State}
 use Rattle.model.specs.declared.Context.the-variants.{T, I}
 use Rattle.model.specs.declared.Call.{Call}
-use Rattle.model.specs.declared.Call.the-variants.{TaskActivate, TaskIactivate, TaskWakeup, TaskIwakeup, TaskReleaseWait, TaskIreleaseWait, SemSignal, SemIsignal, SemPolling, SemIpolling, OnFlag}
+use Rattle.model.specs.declared.Call.the-variants.{TaskActivate, TaskIactivate, TaskWakeup, TaskIwakeup, TaskReleaseWait, TaskIreleaseWait, SemSignal, SemIsignal, SemPolling, SemIpolling, OnFlag, OnQueue}
 use Rattle.model.specs.declared.FlagService.the-variants.{Set, Iset, Clear, Iclear, WaitPolling, Iwait}
+use Rattle.model.specs.declared.QueueService.the-variants.{SendPolling, IsendPolling, ReceivePolling, Ireceive}
 use Rattle.model.specs.Services
 use Rattle.model.specs.Call as Calls
 use Rattle.model.specs.Call.{call}
@@ -16,7 +17,7 @@ abbrev pub Same : Call → Call → Type 0
 Same i t = (s : State) → call s I i ≡ call s T t
 
 opened : ℕ
-unfolding Calls.call Calls.step Calls.planned Calls.plan Calls.flagPlan Services.isMine table
+unfolding Calls.call Calls.step Calls.planned Calls.plan Calls.flagPlan Calls.queuePlan Services.isMine table
 opened = 0
 
 pub activates : (t : ℕ) → Same (TaskIactivate t) (TaskActivate t)
@@ -50,3 +51,11 @@ clears f b s = refl
 pub polls-a-flag : (f p m : ℕ) → Same (OnFlag f (Iwait p m)) (OnFlag f (WaitPolling p m))
 unfolding opened
 polls-a-flag f p m s = refl
+
+pub polls-to-send : (q e : ℕ) → Same (OnQueue q (IsendPolling e)) (OnQueue q (SendPolling e))
+unfolding opened
+polls-to-send q e s = refl
+
+pub polls-to-receive : (q : ℕ) → Same (OnQueue q Ireceive) (OnQueue q ReceivePolling)
+unfolding opened
+polls-to-receive q s = refl

@@ -1,6 +1,7 @@
 pub mod Words
 pub mod Table
 pub mod Flags
+pub mod DataQueues
 pub mod Refusals
 pub mod Accepted
 pub mod Entries

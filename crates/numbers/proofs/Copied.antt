@@ -30,7 +30,7 @@ part-put xs n e ns a h =
     let m : a ≤ length ns = omega arith in
     rw (sets-eq xs ns a l, append-assoc (take a ns) xs (drop (a + length xs) ns), drop-at (take a ns) (xs ++ drop (a + length xs) ns) a (length-take-le a ns m), take-at xs (drop (a + length xs) ns) n e)
 
-below : (xs ns : List ℕ) (a b k : ℕ) → b + k ≤ a → part b k (sets ns a xs) ≡ part b k ns
+pub below : (xs ns : List ℕ) (a b k : ℕ) → b + k ≤ a → part b k (sets ns a xs) ≡ part b k ns
 unfolding part
 below [] ns a b k h = refl
 below (x ∷ xs) ns a b k h =
@@ -63,12 +63,21 @@ pub copy-end : (r ns : List ℕ) (n a i : ℕ) → length r ≡ n → a + n ≤ 
 copy-end r ns n a i e m h g = sym (take-all i r (omega arith)) ∙ g ∙ take-all i (part a n ns) (omega (arith, part-long a n ns m))
 
 -- ---- all of them
-pub spreads : (x : Numbers) (n₀ n₁ n₂ n₃ n₄ n₅ n₆ : List ℕ)
-    → length n₀ ≡ 76 → (n₁ ≡ sets n₀ 0 (x .slices)) × (length (x .slices) ≡ 31) → (n₂ ≡ sets n₁ 31 (x .counts)) × (length (x .counts) ≡ 13) → (n₃ ≡ sets n₂ 44 (x .maxima)) × (length (x .maxima) ≡ 13) → (n₄ ≡ sets n₃ 57 (x .attributes)) × (length (x .attributes) ≡ 9) → (n₅ ≡ sets n₄ 66 (x .bits)) × (length (x .bits) ≡ 9)
-    → n₆ ≡ stored 75 1 0 (x .time) n₅ → heldIn n₆ ≡ x
-spreads x n₀ n₁ n₂ n₃ n₄ n₅ n₆ h m₁ m₂ m₃ m₄ m₅ d₆ =
+pub spreads : (x : Numbers) (n₀ n₁ n₂ n₃ n₄ n₅ n₆ n₇ n₈ n₉ : List ℕ)
+    → length n₀ ≡ 238
+    → (n₁ ≡ sets n₀ 0 (x .slices)) × (length (x .slices) ≡ 31)
+    → (n₂ ≡ sets n₁ 31 (x .counts)) × (length (x .counts) ≡ 13)
+    → (n₃ ≡ sets n₂ 44 (x .maxima)) × (length (x .maxima) ≡ 13)
+    → (n₄ ≡ sets n₃ 57 (x .attributes)) × (length (x .attributes) ≡ 9)
+    → (n₅ ≡ sets n₄ 66 (x .bits)) × (length (x .bits) ≡ 9)
+    → (n₆ ≡ sets n₅ 76 (x .capacities)) × (length (x .capacities) ≡ 9)
+    → (n₇ ≡ sets n₆ 85 (x .taken)) × (length (x .taken) ≡ 9)
+    → (n₈ ≡ sets n₇ 94 (x .elements)) × (length (x .elements) ≡ 144)
+    → n₉ ≡ stored 75 1 0 (x .time) n₈
+    → heldIn n₉ ≡ x
+spreads x n₀ n₁ n₂ n₃ n₄ n₅ n₆ n₇ n₈ n₉ h m₁ m₂ m₃ m₄ m₅ m₆ m₇ m₈ d₉ =
     let room : 0 < length (part 75 1 n₀) = omega (arith, part-long 75 1 n₀ (omega arith)) in
-    rw (d₆, m₅ .0, m₄ .0, m₃ .0, m₂ .0, m₁ .0) (simp (
+    rw (d₉, m₈ .0, m₇ .0, m₆ .0, m₅ .0, m₄ .0, m₃ .0, m₂ .0, m₁ .0) (simp (
       part-same,
       part-other,
       part-beside (x .slices) 31 (m₁ .1),
@@ -76,11 +85,17 @@ spreads x n₀ n₁ n₂ n₃ n₄ n₅ n₆ h m₁ m₂ m₃ m₄ m₅ d₆ =
       part-beside (x .maxima) 13 (m₃ .1),
       part-beside (x .attributes) 9 (m₄ .1),
       part-beside (x .bits) 9 (m₅ .1),
+      part-beside (x .capacities) 9 (m₆ .1),
+      part-beside (x .taken) 9 (m₇ .1),
+      part-beside (x .elements) 144 (m₈ .1),
       part-put (x .slices) 31 (m₁ .1),
       part-put (x .counts) 13 (m₂ .1),
       part-put (x .maxima) 13 (m₃ .1),
       part-put (x .attributes) 9 (m₄ .1),
       part-put (x .bits) 9 (m₅ .1),
+      part-put (x .capacities) 9 (m₆ .1),
+      part-put (x .taken) 9 (m₇ .1),
+      part-put (x .elements) 144 (m₈ .1),
       length-sets,
       h,
       getD-set-same,

@@ -11,9 +11,9 @@ use lib.Seq.{take-set-le, take-set-lt, drop-set-lt, drop-set-add, set-out, getD-
 use borrow.Author.Tests.{ltb-true, ltb-false, leb-true, lt-ltb, le-ltb}
 use Rattle.numbers.specs.Numbers.{part, stored, apart}
 
-short : (a n : ℕ) (ns : List ℕ) → length (part a n ns) ≤ n
+pub part-short : (a n : ℕ) (ns : List ℕ) → length (part a n ns) ≤ n
 unfolding part
-short a n ns = simp length-take (omega arith)
+part-short a n ns = simp length-take (omega arith)
 
 pub part-long : (a n : ℕ) (ns : List ℕ) → a + n ≤ length ns → length (part a n ns) ≡ n
 unfolding part
@@ -25,7 +25,7 @@ unfolding part
 part-at a n i ns h = rw (getD-take n (drop a ns) i 0 h, getD-drop a ns i 0)
 
 pub part-past : (a n i : ℕ) (ns : List ℕ) → n ≤ i → getD (part a n ns) i 0 ≡ 0
-part-past a n i ns h = List·getD-eq-default (part a n ns) 0 {n = i} (omega (arith, short a n ns))
+part-past a n i ns h = List·getD-eq-default (part a n ns) 0 {n = i} (omega (arith, part-short a n ns))
 
 -- ---- reading after a store
 pub part-same : (a n i v : ℕ) (ns : List ℕ) → part a n (stored a n i v ns) ≡ set (part a n ns) i v
@@ -34,7 +34,7 @@ part-same a n i v ns = go (ltb i n) refl
   where
     go : (b : Bool) → ltb i n ≡ b → take n (drop a (cond b (set ns (a + i) v) ns)) ≡ set (take n (drop a ns)) i v
     go true e = rw (drop-set-add a ns i v, take-set-lt n (drop a ns) i v (ltb-true i n e))
-    go false e = sym (set-out (take n (drop a ns)) i v (omega (arith, ltb-false i n e, short a n ns)))
+    go false e = sym (set-out (take n (drop a ns)) i v (omega (arith, ltb-false i n e, part-short a n ns)))
 
 pub part-other : (a n b k i v : ℕ) (ns : List ℕ) → apart a n b k ≡ true → part b k (stored a n i v ns) ≡ part b k ns
 unfolding part stored

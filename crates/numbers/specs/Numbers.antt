@@ -28,4 +28,7 @@ heldIn ns = record {
   attributes = part 57 9 ns;
   bits = part 66 9 ns;
   time = getD (part 75 1 ns) 0 0;
+  capacities = part 76 9 ns;
+  taken = part 85 9 ns;
+  elements = part 94 144 ns;
 }

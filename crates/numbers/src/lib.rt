@@ -1,15 +1,24 @@
 // One table of numbers, read and changed where it lies: each part has a function that reads it and one that changes it.
 // A place past the part's end reads as 0, and a store there changes nothing. Rests on specs/Numbers, which says where each part lies.
 ghost use mathlib.Core.Path.{_≡_};
-ghost use Prim.Native.Nat.{_+_, _≤_};
-ghost use lib.ListN.{getD, set, length};
-ghost use lib.Seq.{sets};
+ghost use lib.ListN.{getD, set};
 ghost use Rattle.numbers.specs.Numbers.{part, stored, heldIn};
-ghost use Rattle.model.specs.State.{noted, ofSlices, ofCounts, ofMaxima, ofAttributes, ofBits, ofTime};
+ghost use Rattle.model.specs.State.{noted, ofSlices, ofCounts, ofMaxima, ofAttributes, ofBits, ofTime, ofCapacities, ofTaken};
+use crate::copies::part9;
+use crate::copies::part13;
+use crate::copies::part31;
+use crate::copies::part144;
+use crate::copies::put9;
+use crate::copies::put13;
+use crate::copies::put31;
+use crate::copies::put144;
 use model::Numbers;
 
+mod copies;
+pub mod elements;
+
 // The table: its parts lie one behind the other.
-pub type NumberTable = [u32; 76];
+pub type NumberTable = [u32; 238];
 
 // ---- where each part begins,
 const SLICES: u16 = 0;
@@ -24,12 +33,20 @@ const BITS: u16 = 66;
 
 const TIME: u16 = 75;
 
+const CAPACITIES: u16 = 76;
+
+const TAKEN: u16 = 85;
+
+pub(crate) const ELEMENTS: u16 = 94;
+
 // and how many places it has
 const LEVELS: u16 = 31;
 
 const SEMAPHORES: u16 = 13;
 
 const FLAGS: u16 = 9;
+
+const QUEUES: u16 = 9;
 
 // ---- one place
 fn word_at(ns: &[u32], i: usize) -> u32
@@ -41,7 +58,7 @@ fn word_at(ns: &[u32], i: usize) -> u32
     0
 }
 
-fn put_word(ns: &mut [u32], i: usize, v: u32)
+pub(crate) fn put_word(ns: &mut [u32], i: usize, v: u32)
     ensures { λ r. ⌜ now (ns .exit) ≡ set (now (ns .entry)) i v ⌝ }
 {
     if ns.len() <= i {
@@ -51,7 +68,7 @@ fn put_word(ns: &mut [u32], i: usize, v: u32)
 }
 
 // ---- a place of a part
-fn number_at(ns: &[u32], a: u16, n: u16, i: usize) -> u32
+pub(crate) fn number_at(ns: &[u32], a: u16, n: u16, i: usize) -> u32
     ensures { λ r. ⌜ r ≡ getD (part a n (now (ns .entry))) i 0 ⌝ }
 {
     if (n as usize) <= i {
@@ -106,6 +123,18 @@ pub fn time_in(ns: &NumberTable) -> u32
     number_at(ns, TIME, 1, 0)
 }
 
+pub fn capacity_at(ns: &NumberTable, q: usize) -> u32
+    ensures { λ r. ⌜ r ≡ getD (heldIn (now (ns .entry)) .capacities) q 0 ⌝ }
+{
+    number_at(ns, CAPACITIES, QUEUES, q)
+}
+
+pub fn taken_at(ns: &NumberTable, q: usize) -> u32
+    ensures { λ r. ⌜ r ≡ getD (heldIn (now (ns .entry)) .taken) q 0 ⌝ }
+{
+    number_at(ns, TAKEN, QUEUES, q)
+}
+
 // and a change of it
 pub fn put_slice(ns: &mut NumberTable, l: usize, v: u32)
     ensures { λ r. ⌜ heldIn (now (ns .exit)) ≡ noted ofSlices l v (heldIn (now (ns .entry))) ⌝ }
@@ -145,52 +174,19 @@ pub fn put_time(ns: &mut NumberTable, v: u32)
     put_number(n, TIME, 1, 0, v);
 }
 
-// ---- a whole part goes into the table,
-fn put_part(ns: &mut [u32], a: u16, xs: &[u32])
-    requires { ⌜ a + length (now xs) ≤ length (now ns) ⌝ }
-    ensures { λ r. ⌜ now (ns .exit) ≡ sets (now (ns .entry)) a (now (xs .entry)) ⌝ }
+pub fn put_capacity(ns: &mut NumberTable, q: usize, v: u32)
+    ensures { λ r. ⌜ heldIn (now (ns .exit)) ≡ noted ofCapacities q v (heldIn (now (ns .entry))) ⌝ }
 {
-    let mut i: usize = 0;
-    while i < xs.len() {
-        ns[(a as usize) + i] = xs[i];
-        i = i + 1;
-    }
+    put_number(ns, CAPACITIES, QUEUES, q, v);
 }
 
-// and comes out of it.
-fn copy_part(xs: &mut [u32], ns: &[u32], a: u16)
-    requires { ⌜ a + length (now xs) ≤ length (now ns) ⌝ }
-    ensures { λ r. ⌜ now (xs .exit) ≡ part a (length (now (xs .entry))) (now (ns .entry)) ⌝ }
+pub fn put_taken(ns: &mut NumberTable, q: usize, v: u32)
+    ensures { λ r. ⌜ heldIn (now (ns .exit)) ≡ noted ofTaken q v (heldIn (now (ns .entry))) ⌝ }
 {
-    let mut i: usize = 0;
-    while i < xs.len() {
-        xs[i] = ns[(a as usize) + i];
-        i = i + 1;
-    }
+    put_number(ns, TAKEN, QUEUES, q, v);
 }
 
 // ---- all of them, as a caller holds them
-fn put31(ns: &mut [u32], a: u16, xs: [u32; 31])
-    requires { ⌜ a + 31 ≤ length (now ns) ⌝ }
-    ensures { λ r. ⌜ (now (ns .exit) ≡ sets (now (ns .entry)) a xs) × (length xs ≡ 31) ⌝ }
-{
-    put_part(ns, a, &xs);
-}
-
-fn put13(ns: &mut [u32], a: u16, xs: [u32; 13])
-    requires { ⌜ a + 13 ≤ length (now ns) ⌝ }
-    ensures { λ r. ⌜ (now (ns .exit) ≡ sets (now (ns .entry)) a xs) × (length xs ≡ 13) ⌝ }
-{
-    put_part(ns, a, &xs);
-}
-
-fn put9(ns: &mut [u32], a: u16, xs: [u32; 9])
-    requires { ⌜ a + 9 ≤ length (now ns) ⌝ }
-    ensures { λ r. ⌜ (now (ns .exit) ≡ sets (now (ns .entry)) a xs) × (length xs ≡ 9) ⌝ }
-{
-    put_part(ns, a, &xs);
-}
-
 pub fn spread(ns: &mut NumberTable, x: Numbers)
     ensures { λ r. ⌜ heldIn (now (ns .exit)) ≡ x ⌝ }
 {
@@ -200,39 +196,18 @@ pub fn spread(ns: &mut NumberTable, x: Numbers)
     let maxima = x.maxima;
     let attributes = x.attributes;
     let bits = x.bits;
+    let capacities = x.capacities;
+    let taken = x.taken;
+    let elements = x.elements;
     put31(n, SLICES, slices);
     put13(n, COUNTS, counts);
     put13(n, MAXIMA, maxima);
     put9(n, ATTRIBUTES, attributes);
     put9(n, BITS, bits);
+    put9(n, CAPACITIES, capacities);
+    put9(n, TAKEN, taken);
+    put144(n, ELEMENTS, elements);
     put_number(n, TIME, 1, 0, x.time);
-}
-
-fn part31(ns: &[u32], a: u16) -> [u32; 31]
-    requires { ⌜ a + 31 ≤ length (now ns) ⌝ }
-    ensures { λ r. ⌜ r ≡ part a 31 (now (ns .entry)) ⌝ }
-{
-    let mut r = [0u32; 31];
-    copy_part(&mut r, ns, a);
-    r
-}
-
-fn part13(ns: &[u32], a: u16) -> [u32; 13]
-    requires { ⌜ a + 13 ≤ length (now ns) ⌝ }
-    ensures { λ r. ⌜ r ≡ part a 13 (now (ns .entry)) ⌝ }
-{
-    let mut r = [0u32; 13];
-    copy_part(&mut r, ns, a);
-    r
-}
-
-fn part9(ns: &[u32], a: u16) -> [u32; 9]
-    requires { ⌜ a + 9 ≤ length (now ns) ⌝ }
-    ensures { λ r. ⌜ r ≡ part a 9 (now (ns .entry)) ⌝ }
-{
-    let mut r = [0u32; 9];
-    copy_part(&mut r, ns, a);
-    r
 }
 
 pub fn gather(ns: &NumberTable) -> Numbers
@@ -245,6 +220,9 @@ pub fn gather(ns: &NumberTable) -> Numbers
     let attributes = part9(n, ATTRIBUTES);
     let bits = part9(n, BITS);
     let time = number_at(n, TIME, 1, 0);
+    let capacities = part9(n, CAPACITIES);
+    let taken = part9(n, TAKEN);
+    let elements = part144(n, ELEMENTS);
     Numbers {
         slices,
         counts,
@@ -252,5 +230,8 @@ pub fn gather(ns: &NumberTable) -> Numbers
         attributes,
         bits,
         time,
+        capacities,
+        taken,
+        elements,
     }
 }

@@ -9,3 +9,5 @@ pub mod Others
 pub mod Own
 pub mod Ordered
 pub mod InOrder
+pub mod Pages
+pub mod Refuted

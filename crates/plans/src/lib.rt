@@ -1,6 +1,7 @@
 // Every call's plan on the tables: each arm looks at what its service asks for, and at nothing else.
-// It is `plannedFrom` of model/specs/Call, for every value; it rests on plans_task, plans_semaphore and plans_flag.
+// It is `plannedFrom` of model/specs/Call, for every value; it rests on plans_task, plans_semaphore, plans_flag and plans_queue.
 ghost use mathlib.Core.Path.{_≡_};
+ghost use mathlib.Core.Bool.{cond, not};
 ghost use Rattle.model.specs.declared.Context.the-variants.{T, I};
 ghost use Rattle.model.specs.declared.Call.the-variants.{OnFlag};
 ghost use Rattle.model.specs.Row.{firstOf};
@@ -9,6 +10,7 @@ ghost use Rattle.model.specs.Service.{signal};
 ghost use Rattle.model.specs.Services.{same, isMine};
 ghost use Rattle.model.specs.Call.{plannedFrom};
 ghost use Rattle.tables.specs.Lent.{before};
+use crate::queue::queue_plan_in;
 use model::Call;
 use model::Context;
 use model::FlagService;
@@ -43,6 +45,8 @@ use stored::record_at;
 use tables::flag_at;
 use tables::semaphore_at;
 
+mod queue;
+
 // ---- contexts
 // The running task, or start-up code.
 fn in_t(c: Context) -> bool
@@ -76,11 +80,10 @@ fn is_flag_inside(service: FlagService) -> bool
     }
 }
 
-// It comes from the context that it belongs to.
-fn is_flag_mine(c: Context, service: FlagService) -> bool
-    ensures { λ r. ⌜ r ≡ isMine c (OnFlag 0 service) ⌝ }
+// A service comes from the context that it belongs to, interrupts or not.
+pub(crate) fn is_mine(c: Context, inside: bool) -> bool
+    ensures { λ r. ⌜ r ≡ cond (same c I) inside (not inside) ⌝ }
 {
-    let inside = is_flag_inside(service);
     match c {
         Context::T => !inside,
         Context::I => inside,
@@ -120,7 +123,14 @@ fn flag_plan_in(
 {
     let y = flag_at(waits, numbers, flag as usize);
     let k = record_at(bytes, words, flag_subject(service, run, y.first) as usize);
-    flag_plan(is_flag_mine(c, service), flag, service, run, k, y)
+    flag_plan(
+        is_mine(c, is_flag_inside(service)),
+        flag,
+        service,
+        run,
+        k,
+        y,
+    )
 }
 
 // The context that each arm asks for is the one that its service belongs to in the table of services.
@@ -264,6 +274,17 @@ pub fn plan_in(
             task,
             numbers::time_in(numbers),
             record_at(bytes, words, task as usize),
+        ),
+        Call::OnQueue { queue, service } => queue_plan_in(
+            bytes,
+            words,
+            levels,
+            waits,
+            numbers,
+            run,
+            c,
+            queue,
+            service,
         ),
     }
 }

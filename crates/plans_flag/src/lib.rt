@@ -23,8 +23,8 @@ use model::News;
 use model::Plan;
 use model::Task;
 use records::is_met;
-use records::on_flag;
 use records::waiting;
+use records::waits::on_flag;
 
 mod poll;
 

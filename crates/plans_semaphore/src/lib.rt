@@ -19,8 +19,8 @@ use model::Semaphore;
 use model::Task;
 use records::SERVED;
 use records::ended;
-use records::on_semaphore;
 use records::waiting;
+use records::waits::on_semaphore;
 
 pub fn sem_create(mine: bool, semaphore: u32, start: u32, maximum: u32, x: Semaphore) -> Plan
     ensures { λ r. ⌜ r ≡ semCreate mine semaphore start maximum x ⌝ }

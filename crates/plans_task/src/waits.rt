@@ -16,9 +16,9 @@ use records::NOTHING;
 use records::RELEASED;
 use records::SERVED;
 use records::SLEEP;
-use records::asleep;
 use records::ended;
 use records::waiting;
+use records::waits::asleep;
 use records::with_suspended;
 use records::with_wakeups;
 

@@ -2,7 +2,7 @@
 // As a slice a table tells the prover its length, which the bridge in proofs/ asks for; each function rests on rows.
 ghost use mathlib.Core.Path.{_≡_};
 ghost use Rattle.model.specs.Row.{turned, row, firstOf, secondOf, withRow, relisted, bestFrom};
-ghost use Rattle.queues.specs.Queues.{queuesOf};
+ghost use Rattle.queues.specs.Queues.{queuesOf, waitsOf};
 use crate::Levels;
 use crate::Waits;
 use crate::queue_at;
@@ -54,7 +54,7 @@ pub fn turn_level(levels: &mut Levels, l: usize)
 // ---- waits
 // The task that stands first in a row, or 0.
 pub fn first_waiter(waits: &Waits, l: usize) -> u8
-    ensures { λ r. ⌜ r ≡ firstOf (queuesOf 21 (now (waits .entry))) l ⌝ }
+    ensures { λ r. ⌜ r ≡ firstOf (waitsOf (now (waits .entry))) l ⌝ }
 {
     let ls: &[u8] = waits;
     rows::first_of(ls, l)
@@ -62,7 +62,7 @@ pub fn first_waiter(waits: &Waits, l: usize) -> u8
 
 // A task leaves row f and goes last in row g.
 pub fn relist_waits(waits: &mut Waits, f: usize, g: usize, t: u8)
-    ensures { λ r. ⌜ queuesOf 21 (now (waits .exit)) ≡ relisted (queuesOf 21 (now (waits .entry))) f g t ⌝ }
+    ensures { λ r. ⌜ waitsOf (now (waits .exit)) ≡ relisted (waitsOf (now (waits .entry))) f g t ⌝ }
 {
     let ls: &mut [u8] = waits;
     rows::relist(ls, f, g, t);
@@ -70,10 +70,10 @@ pub fn relist_waits(waits: &mut Waits, f: usize, g: usize, t: u8)
 
 // A row as it stands; a number that names none has zeros.
 pub fn waiters(waits: &Waits, l: u8) -> [u8; 24]
-    ensures { λ r. ⌜ r ≡ row (queuesOf 21 (now (waits .entry))) l ⌝ }
+    ensures { λ r. ⌜ r ≡ row (waitsOf (now (waits .entry))) l ⌝ }
 {
     let ls: &[u8] = waits;
-    if 20 < l {
+    if 28 < l {
         return [0u8; 24];
     }
     let q = queue_at(ls, l);

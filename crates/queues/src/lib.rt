@@ -5,7 +5,7 @@ ghost use Prim.Native.Nat.{_+_, _*_, _≤_};
 ghost use lib.ListN.{length};
 ghost use lib.Seq.{sets};
 ghost use Rattle.model.specs.Row.{asQueue};
-ghost use Rattle.queues.specs.Queues.{queuesOf};
+ghost use Rattle.queues.specs.Queues.{queuesOf, waitsOf};
 ghost use Rattle.rows.specs.Flat.{rowIn};
 use model::Queue;
 
@@ -14,7 +14,7 @@ pub mod lent;
 // The two tables: 24 places for each level, and for each row of waits.
 pub type Levels = [u8; 744];
 
-pub type Waits = [u8; 504];
+pub type Waits = [u8; 696];
 
 // ---- one queue of a table that has it. Its length is said too, since a caller can't see it.
 fn put_queue(flat: &mut [u8], l: u8, q: Queue)
@@ -72,25 +72,25 @@ pub fn gather_levels(flat: &Levels) -> [Queue; 31]
 }
 
 // ---- so do the waits.
-pub fn spread_waits(flat: &mut Waits, qs: [Queue; 21])
-    ensures { λ r. ⌜ queuesOf 21 (now (flat .exit)) ≡ qs ⌝ }
+pub fn spread_waits(flat: &mut Waits, qs: [Queue; 29])
+    ensures { λ r. ⌜ waitsOf (now (flat .exit)) ≡ qs ⌝ }
 {
     let f: &mut [u8] = flat;
     let mut l: u8 = 0;
-    while l < 21 {
+    while l < 29 {
         put_queue(f, l, qs[l as usize]);
         l = l + 1;
     }
 }
 
-pub fn gather_waits(flat: &Waits) -> [Queue; 21]
-    ensures { λ r. ⌜ r ≡ queuesOf 21 (now (flat .entry)) ⌝ }
+pub fn gather_waits(flat: &Waits) -> [Queue; 29]
+    ensures { λ r. ⌜ r ≡ waitsOf (now (flat .entry)) ⌝ }
 {
     let f: &[u8] = flat;
     let none = Queue { places: [0u8; 24] };
-    let mut r = [none; 21];
+    let mut r = [none; 29];
     let mut l: u8 = 0;
-    while l < 21 {
+    while l < 29 {
         r[l as usize] = queue_at(f, l);
         l = l + 1;
     }

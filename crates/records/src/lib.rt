@@ -5,10 +5,14 @@ ghost use mathlib.Core.Bool.{cond, not, _&&_};
 ghost use lib.Dec.{eqb};
 ghost use Rattle.model.specs.Code.{waitNumber};
 ghost use Rattle.model.specs.Flag.{isMet, flagRow};
-ghost use Rattle.model.specs.Task.{noWait, asleep, onSemaphore, onFlag, noTask, levelOf, rowOf, dormant, activated, created, withPriority, withSuspended, withWakeups, withActivations, withMarks, waiting, ended, told};
+ghost use Rattle.model.specs.DataQueue.{queueRow};
+ghost use Rattle.model.specs.Task.{noTask, levelOf, rowOf, dormant, activated, created, withPriority, withSuspended, withWakeups, withActivations, withMarks, waiting, ended, told};
+use crate::waits::no_wait;
 use model::News;
 use model::Task;
 use model::Wait;
+
+pub mod waits;
 
 // the timeout that never ends
 pub const ENDLESS: u32 = 4294967295;
@@ -21,6 +25,10 @@ pub const SLEEP: u8 = 1;
 pub const SEMAPHORE: u8 = 2;
 
 pub const FLAG: u8 = 3;
+
+pub const SEND: u8 = 4;
+
+pub const RECEIVE: u8 = 5;
 
 // how a wait ended, as a record keeps it: a code without its sign
 pub const SERVED: u8 = 0;
@@ -63,6 +71,19 @@ pub fn flag_row(f: u8) -> u8
     f + 12
 }
 
+// That of a data queue's waiters, senders or receivers, after those of the 8 flags.
+pub fn queue_row(q: u8) -> u8
+    ensures { λ r. ⌜ r ≡ queueRow q ⌝ }
+{
+    if q < 1 {
+        return 0;
+    }
+    if 8 < q {
+        return 0;
+    }
+    q + 20
+}
+
 pub fn row_of(x: Task) -> u8
     ensures { λ r. ⌜ r ≡ rowOf x ⌝ }
 {
@@ -74,60 +95,10 @@ pub fn row_of(x: Task) -> u8
     if kind == FLAG {
         return flag_row(object);
     }
+    if (kind == SEND) | (kind == RECEIVE) {
+        return queue_row(object);
+    }
     0
-}
-
-// ---- waits: for what, on which object, for how many ticks at most, and what they ask
-fn no_wait() -> Wait
-    ensures { λ r. ⌜ r ≡ noWait ⌝ }
-{
-    Wait {
-        kind: NOTHING,
-        object: 0,
-        mode: 0,
-        spare: 0,
-        remaining: 0,
-        pattern: 0,
-    }
-}
-
-pub fn asleep(timeout: u32) -> Wait
-    ensures { λ r. ⌜ r ≡ asleep timeout ⌝ }
-{
-    Wait {
-        kind: SLEEP,
-        object: 0,
-        mode: 0,
-        spare: 0,
-        remaining: timeout,
-        pattern: 0,
-    }
-}
-
-pub fn on_semaphore(semaphore: u8, timeout: u32) -> Wait
-    ensures { λ r. ⌜ r ≡ onSemaphore semaphore timeout ⌝ }
-{
-    Wait {
-        kind: SEMAPHORE,
-        object: semaphore,
-        mode: 0,
-        spare: 0,
-        remaining: timeout,
-        pattern: 0,
-    }
-}
-
-pub fn on_flag(flag: u8, pattern: u32, mode: u8, timeout: u32) -> Wait
-    ensures { λ r. ⌜ r ≡ onFlag flag pattern mode timeout ⌝ }
-{
-    Wait {
-        kind: FLAG,
-        object: flag,
-        mode: mode,
-        spare: 0,
-        remaining: timeout,
-        pattern: pattern,
-    }
 }
 
 // ---- records

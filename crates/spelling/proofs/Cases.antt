@@ -6,12 +6,13 @@ use mathlib.Core.List.{List, [], _∷_, _++_}
 use native.Mathlib.Omega.{arith}
 use Rattle.text.specs.Bytes.{bytes}
 use Rattle.model.specs.declared.Context.the-variants.{T}
-use Rattle.model.specs.declared.Call.the-variants.{TaskSleep, SemAcquire, OnFlag}
+use Rattle.model.specs.declared.Call.the-variants.{TaskSleep, SemAcquire, OnFlag, OnQueue}
 use Rattle.model.specs.declared.FlagService.the-variants.{Wait}
+use Rattle.model.specs.declared.QueueService.the-variants.{Send, Receive}
 use Rattle.lines.specs.Fields.{endOf}
 use Rattle.lines.specs.Lines.{headed, headerOf}
 use Rattle.lines.proofs.Vectors.{reader}
-use Rattle.walk.specs.Script.{done as over, next, scriptIn, scriptOf, faultOf}
+use Rattle.walk.specs.Script.{Script, done as over, next, scriptIn, scriptOf, faultOf}
 use Rattle.spelling.specs.Statement.{Spelled, done, same, word}
 use Rattle.spelling.proofs.Same.{same-calls}
 
@@ -19,21 +20,26 @@ alike : {s t : List ℕ} (u : List ℕ) → Spelled s t → Spelled (u ++ s) (u 
 alike [] p = p
 alike (b ∷ u) p = same b (alike u p)
 
--- ---- five fields: both words in digits
+-- ---- five fields: all words in digits
 abbrev sleeps : List ℕ
-sleeps = bytes "ctx,service,a,b,c\r\nT,tn_task_sleep,forever,,\r\nT,tn_sem_acquire,1,forever,"
+sleeps = bytes "ctx,service,a,b,c\r\nT,tn_task_sleep,forever,,\r\nT,tn_sem_acquire,1,forever,\r\nT,tn_queue_send,1,0,forever\r\nT,tn_queue_receive,1,forever,"
 
 abbrev sleepsInDigits : List ℕ
-sleepsInDigits = bytes "ctx,service,a,b,c\r\nT,tn_task_sleep,4294967295,,\r\nT,tn_sem_acquire,1,4294967295,"
+sleepsInDigits = bytes "ctx,service,a,b,c\r\nT,tn_task_sleep,4294967295,,\r\nT,tn_sem_acquire,1,4294967295,\r\nT,tn_queue_send,1,0,4294967295\r\nT,tn_queue_receive,1,4294967295,"
+
+abbrev sleepsCalls : Script
+sleepsCalls = next T (TaskSleep 4294967295) (next T (SemAcquire 1 4294967295) (next T (OnQueue 1 (Send 0 4294967295)) (next T (OnQueue 1 (Receive 4294967295)) over)))
 
 sleeps-spelled : Spelled sleeps sleepsInDigits
-sleeps-spelled = alike (bytes "ctx,service,a,b,c\r\nT,tn_task_sleep,") (word (alike (bytes ",,\r\nT,tn_sem_acquire,1,") (word (alike (bytes ",") done))))
+sleeps-spelled =
+    alike (bytes "ctx,service,a,b,c\r\nT,tn_task_sleep,") (word (alike (bytes ",,\r\nT,tn_sem_acquire,1,") (word
+    (alike (bytes ",\r\nT,tn_queue_send,1,0,") (word (alike (bytes "\r\nT,tn_queue_receive,1,") (word (alike (bytes ",") done))))))))
 
-sleeps-read : scriptOf sleeps ≡ next T (TaskSleep 4294967295) (next T (SemAcquire 1 4294967295) over)
+sleeps-read : scriptOf sleeps ≡ sleepsCalls
 unfolding scriptOf scriptIn headerOf headed reader endOf
 sleeps-read = refl
 
-pub digits-sleep : scriptOf sleepsInDigits ≡ next T (TaskSleep 4294967295) (next T (SemAcquire 1 4294967295) over)
+pub digits-sleep : scriptOf sleepsInDigits ≡ sleepsCalls
 unfolding faultOf
 digits-sleep = same-calls sleeps sleepsInDigits sleeps-spelled (rw sleeps-read) ∙ sleeps-read
 

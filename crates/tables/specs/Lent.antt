@@ -6,11 +6,11 @@ use denote.Ref.{RefT, now}
 use denote.Triple.Both.{Both}
 use Rattle.model.specs.declared.State.{State}
 use Rattle.stored.specs.Stored.{tasksOf}
-use Rattle.queues.specs.Queues.{queuesOf}
+use Rattle.queues.specs.Queues.{queuesOf, waitsOf}
 use Rattle.numbers.specs.Numbers.{heldIn}
 
 abbrev pub stateIn : List ℕ → List ℕ → List ℕ → List ℕ → List ℕ → State
-stateIn bytes words levels waits numbers = record { tasks = tasksOf bytes words; levels = queuesOf 31 levels; waits = queuesOf 21 waits; numbers = heldIn numbers }
+stateIn bytes words levels waits numbers = record { tasks = tasksOf bytes words; levels = queuesOf 31 levels; waits = waitsOf waits; numbers = heldIn numbers }
 
 -- a lent table, at entry and at exit
 abbrev pub Lent : Type 0

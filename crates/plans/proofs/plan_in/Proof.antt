@@ -106,6 +106,10 @@ returns-25 : tie.Need-returns-25
 unfolding plan isMine table
 returns-25 c = rw (c .ready-ticks .ensures, c .before .before .time-in .ensures, c .before .record-at15 .ensures, c .before .before .before .before .a23 .given .1, c .before .before .before .before .before .before .before .in-t .ensures)
 
+returns-26 : tie.Need-returns-26
+unfolding plan isMine
+returns-26 c = rw (c .queue-plan-in .ensures, c .before .before .a24 .given .1)
+
 pub plan-in-spec : {M : Type 1} → statement M
 plan-in-spec =
     tie.close
@@ -201,6 +205,8 @@ plan-in-spec =
     (λ c. search needs)
     (λ c κs. search needs)
     (λ c κs. search needs)
+    (λ c. search needs)
+    (λ c κs. search needs)
     returns
     returns-2
     returns-3
@@ -225,4 +231,5 @@ plan-in-spec =
     returns-22
     returns-23
     returns-24
-    returns-25)
+    returns-25
+    returns-26)

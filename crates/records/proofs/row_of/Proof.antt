@@ -15,7 +15,11 @@ returns-2 c = rw (c .flag-row .ensures, ne-eqb _ _ (c .before .before .if1 .left
 
 returns-3 : tie.Need-returns-3
 unfolding rowOf
-returns-3 c = rw (ne-eqb _ _ (c .before .if1 .left), ne-eqb _ _ (c .if2 .left))
+returns-3 c = rw (c .queue-row .ensures, ne-eqb _ _ (c .before .before .before .if1 .left), ne-eqb _ _ (c .before .before .if2 .left), c .before .if3 .taken)
+
+returns-4 : tie.Need-returns-4
+unfolding rowOf
+returns-4 c = rw (ne-eqb _ _ (c .before .before .if1 .left), ne-eqb _ _ (c .before .if2 .left), c .if3 .left)
 
 pub row-of-spec : {M : Type 1} → statement M
-row-of-spec = tie.close (tie.spec returns (λ c κs. search needs) returns-2 returns-3)
+row-of-spec = tie.close (tie.spec returns (λ c κs. search needs) returns-2 (λ c κs. search needs) returns-3 returns-4)

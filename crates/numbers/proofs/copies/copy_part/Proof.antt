@@ -1,4 +1,4 @@
--- `numbers::copy_part` meets its contract. The invariant: the places passed are copied.
+-- `numbers::copies::copy_part` meets its contract. The invariant: the places passed are copied.
 -- Rests on Copied.
 use mathlib.Core.Path.{_≡_, refl}
 use Prim.Native.Nat.{_≤_, _-_}
@@ -7,8 +7,8 @@ use lib.ListN.{length, length-set, take}
 use borrow.Author.Needs.{needs}
 use Rattle.numbers.specs.Numbers.{part}
 use Rattle.numbers.proofs.Copied as law
-use Rattle.numbers.proofs.copy_part.Statement.{statement}
-use Rattle.numbers.proofs.copy_part.Tie as tie
+use Rattle.numbers.proofs.copies.copy_part.Statement.{statement}
+use Rattle.numbers.proofs.copies.copy_part.Tie as tie
 
 abbrev Inv-loop : tie.InvT-loop
 Inv-loop xs₀ ns a i₀ xs i = (i ≤ length xs) × (length xs ≡ length xs₀) × (take i xs ≡ take i (part a (length xs₀) ns))

@@ -1,4 +1,4 @@
--- `numbers::put_part` meets its contract. The invariant: what is left to store makes of the table what the whole does.
+-- `numbers::copies::put_part` meets its contract. The invariant: what is left to store makes of the table what the whole does.
 -- Rests on Copied.
 use mathlib.Core.Path.{_≡_, refl}
 use Prim.Native.Nat.{_≤_, _+_, _-_}
@@ -8,8 +8,8 @@ use lib.ListN.{length, length-set, drop}
 use lib.Seq.{sets}
 use borrow.Author.Needs.{needs}
 use Rattle.numbers.proofs.Copied as law
-use Rattle.numbers.proofs.put_part.Statement.{statement}
-use Rattle.numbers.proofs.put_part.Tie as tie
+use Rattle.numbers.proofs.copies.put_part.Statement.{statement}
+use Rattle.numbers.proofs.copies.put_part.Tie as tie
 
 abbrev Inv-loop : tie.InvT-loop
 Inv-loop ns₀ a xs i₀ ns i = (i ≤ length xs) × (length ns ≡ length ns₀) × (sets ns (a + i) (drop i xs) ≡ sets ns₀ a xs)
