@@ -17,8 +17,8 @@
 /* The version: 10000 times its first number, 100 times its second, and its third. The second counts the landings after the base
    (docs/landings) and goes up with each; the first goes up too where callers must be built again; the third with a correction between
    two landings. What came before 1.5.0 has no such number. */
-#define GRITGARLAND_VERSION 30900
-#define GRITGARLAND_VERSION_STRING "3.9.0"
+#define GRITGARLAND_VERSION 41000
+#define GRITGARLAND_VERSION_STRING "4.10.0"
 
 #ifdef __cplusplus
 extern "C" {
@@ -27,7 +27,8 @@ extern "C" {
 typedef struct gritgarland_reply {
     int32_t code;     /* a GRITGARLAND_ code below */
     uint32_t running; /* the task that runs after the call; 0: none */
-    uint32_t value;   /* the bits that a flag wait or poll got at once, all of them; the ticks that ready_ticks gives; else 0 */
+    uint32_t value;   /* the bits that a flag wait or poll got at once, all of them; the element that was received at once, which may be 0 too;
+                         the ticks that ready_ticks gives; else 0 */
     gritgarland_state state;
 } gritgarland_reply;
 
@@ -41,7 +42,7 @@ typedef struct gritgarland_report {
 /* ---- contexts: who calls. The library can't see it and believes the number. */
 enum { GRITGARLAND_T = 0, /* the running task, or start-up code */ GRITGARLAND_I = 1 /* an interrupt */ };
 
-/* ---- services, with the numbers they take as a, b, c, d; a number not taken is not looked at. The last is the library's own and in no
+/* ---- services, with the numbers they take as a, b, c, d; a number not taken is not looked at. Number 33 is the library's own and in no
    list: TNKernel has no call of its kind. */
 enum {
     GRITGARLAND_TASK_CREATE = 1,           /* task, priority, option */
@@ -76,7 +77,15 @@ enum {
     GRITGARLAND_EVENT_WAIT = 30,           /* flag, pattern, mode, timeout */
     GRITGARLAND_EVENT_WAIT_POLLING = 31,   /* flag, pattern, mode */
     GRITGARLAND_EVENT_IWAIT = 32,          /* flag, pattern, mode */
-    GRITGARLAND_READY_TICKS = 33           /* task: the ticks since it last entered its level, in `value` */
+    GRITGARLAND_READY_TICKS = 33,          /* task: the ticks since it last entered its level, in `value` */
+    GRITGARLAND_QUEUE_CREATE = 34,         /* queue, capacity */
+    GRITGARLAND_QUEUE_DELETE = 35,         /* queue */
+    GRITGARLAND_QUEUE_SEND = 36,           /* queue, element, timeout */
+    GRITGARLAND_QUEUE_SEND_POLLING = 37,   /* queue, element */
+    GRITGARLAND_QUEUE_ISEND_POLLING = 38,  /* queue, element */
+    GRITGARLAND_QUEUE_RECEIVE = 39,        /* queue, timeout: the element in `value`, or in the task's record after a wait */
+    GRITGARLAND_QUEUE_RECEIVE_POLLING = 40, /* queue: the element in `value` */
+    GRITGARLAND_QUEUE_IRECEIVE = 41        /* queue: the element in `value` */
 };
 
 /* ---- attributes of a flag, and modes of a wait for it */

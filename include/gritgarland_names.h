@@ -66,6 +66,14 @@ static inline const char *gritgarland_service_name(uint32_t service)
     case GRITGARLAND_EVENT_WAIT_POLLING: return "tn_event_wait_polling";
     case GRITGARLAND_EVENT_IWAIT: return "tn_event_iwait";
     case GRITGARLAND_READY_TICKS: return "ready_ticks";
+    case GRITGARLAND_QUEUE_CREATE: return "tn_queue_create";
+    case GRITGARLAND_QUEUE_DELETE: return "tn_queue_delete";
+    case GRITGARLAND_QUEUE_SEND: return "tn_queue_send";
+    case GRITGARLAND_QUEUE_SEND_POLLING: return "tn_queue_send_polling";
+    case GRITGARLAND_QUEUE_ISEND_POLLING: return "tn_queue_isend_polling";
+    case GRITGARLAND_QUEUE_RECEIVE: return "tn_queue_receive";
+    case GRITGARLAND_QUEUE_RECEIVE_POLLING: return "tn_queue_receive_polling";
+    case GRITGARLAND_QUEUE_IRECEIVE: return "tn_queue_ireceive";
     default: return "no such service";
     }
 }

@@ -143,6 +143,40 @@ static inline gritgarland_report gritgarland_ready_ticks(gritgarland_state *stat
 {
     return gritgarland_call_in_place(state, context, GRITGARLAND_READY_TICKS, task, 0, 0, 0);
 }
+static inline gritgarland_report gritgarland_queue_create(gritgarland_state *state, uint32_t context, uint32_t queue, uint32_t capacity)
+{
+    return gritgarland_call_in_place(state, context, GRITGARLAND_QUEUE_CREATE, queue, capacity, 0, 0);
+}
+static inline gritgarland_report gritgarland_queue_delete(gritgarland_state *state, uint32_t context, uint32_t queue)
+{
+    return gritgarland_call_in_place(state, context, GRITGARLAND_QUEUE_DELETE, queue, 0, 0, 0);
+}
+static inline gritgarland_report gritgarland_queue_send(gritgarland_state *state, uint32_t context, uint32_t queue, uint32_t element, uint32_t timeout)
+{
+    return gritgarland_call_in_place(state, context, GRITGARLAND_QUEUE_SEND, queue, element, timeout, 0);
+}
+static inline gritgarland_report gritgarland_queue_send_polling(gritgarland_state *state, uint32_t context, uint32_t queue, uint32_t element)
+{
+    return gritgarland_call_in_place(state, context, GRITGARLAND_QUEUE_SEND_POLLING, queue, element, 0, 0);
+}
+static inline gritgarland_report gritgarland_queue_isend_polling(gritgarland_state *state, uint32_t context, uint32_t queue, uint32_t element)
+{
+    return gritgarland_call_in_place(state, context, GRITGARLAND_QUEUE_ISEND_POLLING, queue, element, 0, 0);
+}
+/* The element is in `value` with NO_ERR, and may be 0. With PENDING the task waits; once it runs again, its record has the wait code, and
+   behind code 0 the element, in `handed`. */
+static inline gritgarland_report gritgarland_queue_receive(gritgarland_state *state, uint32_t context, uint32_t queue, uint32_t timeout)
+{
+    return gritgarland_call_in_place(state, context, GRITGARLAND_QUEUE_RECEIVE, queue, timeout, 0, 0);
+}
+static inline gritgarland_report gritgarland_queue_receive_polling(gritgarland_state *state, uint32_t context, uint32_t queue)
+{
+    return gritgarland_call_in_place(state, context, GRITGARLAND_QUEUE_RECEIVE_POLLING, queue, 0, 0, 0);
+}
+static inline gritgarland_report gritgarland_queue_ireceive(gritgarland_state *state, uint32_t context, uint32_t queue)
+{
+    return gritgarland_call_in_place(state, context, GRITGARLAND_QUEUE_IRECEIVE, queue, 0, 0, 0);
+}
 
 #ifdef __cplusplus
 }

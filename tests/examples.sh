@@ -34,7 +34,7 @@ both() {
     ' "examples/$1.csv"
 }
 
-for name in worked hold-until-key round-robin account mistakes/refused-calls mistakes/refused-flags mistakes/clear-of-tnkernel; do
+for name in worked hold-until-key round-robin account reading-and-relay mistakes/refused-calls mistakes/refused-flags mistakes/refused-queues mistakes/clear-of-tnkernel; do
     both "$name" table >"$work/rows"
     awk -v file="\`examples/$name.csv\`" '
         /^#/ { on = index($0, file) }
@@ -78,7 +78,7 @@ awk '/^#/ { on = /Lines that can\047t be read/ } on && /^\| `/ && match($0, /^\|
     sort >"$work/page"
 sort "$work/rows" | cmp -s - "$work/page" || { differs "docs/EXAMPLES.md has other lines that can't be read: < is right, > on the page"; sort "$work/rows" | diff - "$work/page"; }
 # all words on a list, with the status of ./play, as a block of the page
-for name in hold-until-key.csv:0 mistakes/clear-of-tnkernel.csv:0 mistakes/refused-calls.csv:0 mistakes/refused-flags.csv:0 mistakes/point-in-number.csv:1; do
+for name in hold-until-key.csv:0 mistakes/clear-of-tnkernel.csv:0 mistakes/refused-calls.csv:0 mistakes/refused-flags.csv:0 mistakes/refused-queues.csv:0 mistakes/point-in-number.csv:1; do
     plays "examples/${name%:?}" "${name#*:}"
     awk '
         FNR == NR { want[NR] = "    " $0; count = NR; next }

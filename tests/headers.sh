@@ -27,7 +27,7 @@ cat >"$work/caller.c" <<'END'
 #define GRITGARLAND_NO_RUN_LIST
 #include "gritgarland.h"
 
-#if GRITGARLAND_VERSION < 30900
+#if GRITGARLAND_VERSION < 41000
 #error "an old header"
 #endif
 
@@ -51,6 +51,8 @@ int main(void)
     default: break;
     }
     if (gritgarland_wait_code(board.tasks[r.running].code) == GRITGARLAND_TIMEOUT || !gritgarland_is_sound(q.state))
+        return 1;
+    if (gritgarland_queue_send(&board, GRITGARLAND_T, 1, 77, GRITGARLAND_ENDLESS).code == GRITGARLAND_NO_ERR && board.numbers.elements[1][0] != 77)
         return 1;
     if (gritgarland_ready_ticks(&board, GRITGARLAND_T, 1).value != board.numbers.time - board.tasks[1].entered)
         return 1;

@@ -113,6 +113,10 @@ call 'T,tn_task_create,1,forever,1' "field 4 (b): [forever] stands for a timeout
 call 'T,tn_sem_acquire,forever,forever,' "field 3 (a): [forever] stands for a timeout only, and tn_sem_acquire takes its semaphore there" '[T,tn_sem_acquire,forever,forever,]'
 six 'T,tn_event_wait,1,forever,0,forever' "field 4 (b): [forever] stands for a timeout only, and tn_event_wait takes its pattern there" '[T,tn_event_wait,1,forever,0,forever]'
 call 'T,tn_task_sleep,Forever,,' "field 3 (a): [Forever] is not in lower case: write forever" '[T,tn_task_sleep,Forever,,]'
+call 'T,tn_queue_send,1,forever,forever' "field 4 (b): [forever] stands for a timeout only, and tn_queue_send takes its element there" '[T,tn_queue_send,1,forever,forever]'
+call 'T,tn_queue_receive,1,FOREVER,' "field 4 (b): [FOREVER] is not in lower case: write forever" '[T,tn_queue_receive,1,FOREVER,]'
+call 'T,tn_queue_send,1,7,' "field 5 (c): [] is blank, and tn_queue_send takes a number there, its timeout" '[T,tn_queue_send,1,7,]'
+call 'I,tn_queue_ireceive_polling,1,,' "field 2 (service): no such service: [tn_queue_ireceive_polling]" '[I,tn_queue_ireceive_polling,1,,]'
 six 'T,tn_event_wait,1,1,0,FOREVER' "field 6 (d): [FOREVER] is not in lower case: write forever" '[T,tn_event_wait,1,1,0,FOREVER]'
 call 'T,tn_task_suspend,FOREVER,,' "field 3 (a): [FOREVER] is not plain digits" '[T,tn_task_suspend,FOREVER,,]'
 call 'T,tn_sem_acquire,1,forever ,' "field 4 (b): [forever ] has a space: write forever" '[T,tn_sem_acquire,1,forever ,]'
@@ -195,7 +199,7 @@ said refused-calls <<'END'
     2 with -1 OVERFLOW: a count is at its top, or a task is suspended already: line 3 (call 2), line 20 (call 19)
     4 with -2 WCONTEXT: wrong context, nobody runs where a task is needed, or wrong state of the task: line 4 (call 3), line 5 (call 4), line 16 (call 15), line 18 (call 17)
     2 with -3 WSTATE: a dormant task suspended, or a task resumed that is not suspended: line 7 (call 6), line 8 (call 7)
-    1 with -4 TIMEOUT: an empty semaphore polled, or a flag whose bits do not meet the pattern: line 10 (call 9)
+    1 with -4 TIMEOUT: an empty semaphore or queue polled, a full queue sent to, or a flag whose bits do not meet the pattern: line 10 (call 9)
     3 with -5 WRONG_PARAM: a number out of range, or an existing object created: line 11 (call 10), line 12 (call 11), line 14 (call 13)
     2 with -9 NOEXS: no such object is created: line 13 (call 12), line 15 (call 14)
 END

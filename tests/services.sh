@@ -26,7 +26,7 @@ same() {
 
 # ---- the table: number, name, context, and a word for each field, as `1 tn_task_create T task priority option`; the library's own services
 # are in no list, and all others have names of document 000, which begin with tn_
-grep -q '^services = tasks ++ (system ++ (semaphores ++ (flags ++ own)))$' "$table" || { echo "services: the parts of $table stand in another order"; exit 1; }
+grep -q '^services = tasks ++ (system ++ (semaphores ++ (flags ++ (own ++ queues))))$' "$table" || { echo "services: the parts of $table stand in another order"; exit 1; }
 awk '
     /^( *(∷ )?|[a-z]+ = )(aService "tn_|ownService "[a-z])/ {
         split($0, quoted, "\"")
@@ -41,7 +41,7 @@ awk '
         print line
     }
 ' "$table" >"$work/table"
-[ "$(wc -l <"$work/table")" -eq 33 ] || { echo "services: $table has not 33 rows that can be read"; exit 1; }
+[ "$(wc -l <"$work/table")" -eq 41 ] || { echo "services: $table has not 41 rows that can be read"; exit 1; }
 awk '$2 !~ /^tn_/ { print $2 }' "$work/table" >"$work/own"
 [ "$(grep -c 'ownService "[a-z]' "$table")" -eq "$(wc -l <"$work/own")" ] || { echo "services: a row of $table is not in its part, or not named as those of its part"; exit 1; }
 
@@ -170,7 +170,7 @@ same "the contexts that $page says are refused"
 
 # ---- the page: where the word for the endless wait may stand
 awk '{ for (i = 4; i <= NF; i++) if ($i == "timeout") print substr("abcd", i - 3, 1) " of `" $2 "`" }' "$work/table" >"$work/wanted"
-[ "$(wc -l <"$work/wanted")" -ge 3 ] || { echo "services: $table has fewer than 3 timeouts"; failed=1; }
+[ "$(wc -l <"$work/wanted")" -ge 5 ] || { echo "services: $table has fewer than 5 timeouts"; failed=1; }
 tr '\n' ' ' <"$page" | tr -s ' ' | sed 's/.* The timeouts are \([^.]*\)\..*/\1/' | awk '{ gsub(/ and |, /, "\n"); print }' >"$work/is"
 same "the timeouts of $page"
 

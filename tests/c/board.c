@@ -1,105 +1,8 @@
 /* A board played under the shim of docs/BOARD.md: interrupts that come during calls and between them, tasks that wait, a store that
    damages the state. What the page says of the shim is looked at here, and what it says of boards without it. */
 #include "board.h"
-#include "libc.h"
+#include "played.h"
 #include "same.h"
-
-typedef void happening(void);
-
-static int failures;
-static uint32_t masked; /* 1: interrupts are masked */
-static bool in_interrupt, relays, halted;
-static happening *const *to_come; /* what happens while others run, ending in NULL */
-static happening *during;         /* an interrupt that comes in the middle of the next call */
-static happening *waiting;        /* and is held back by the mask */
-static happening *bodies[3];      /* of the tasks, until they begin */
-static uint32_t switches, delivered;
-
-static void expect(int holds, const char *what)
-{
-    if (!holds) {
-        printf("board.c: %s\n", what);
-        failures++;
-    }
-}
-
-/* ---- the board */
-static void deliver(happening *interrupt)
-{
-    expect(masked == 0 && !in_interrupt, "an interrupt comes through the mask");
-    in_interrupt = true;
-    masked = 1;
-    delivered++;
-    interrupt();
-    expect(masked == 1, "a call in an interrupt opens the mask");
-    in_interrupt = false;
-    masked = 0;
-}
-
-uint32_t board_mask(void)
-{
-    uint32_t before = masked;
-    masked = 1;
-    if (during != NULL)
-        waiting = during;
-    during = NULL;
-    return before;
-}
-
-void board_unmask(uint32_t before)
-{
-    happening *held = waiting;
-    masked = before;
-    if (before == 0 && held != NULL) {
-        waiting = NULL;
-        deliver(held);
-    }
-}
-
-/* Lets others run until `from` does: a task that has not begun begins here, and the rest is interrupts. */
-void board_switch(uint32_t from, uint32_t to)
-{
-    uint32_t mask = masked;
-    expect(to == current && from != to, "who is switched to");
-    switches++;
-    if (in_interrupt)
-        return;
-    masked = 0;
-    while (current != from && !halted) {
-        happening *held = waiting, *body = bodies[current];
-        waiting = NULL;
-        if (held != NULL)
-            deliver(held);
-        else if (bodies[current] = NULL, body != NULL)
-            body();
-        else if (*to_come != NULL)
-            deliver(*to_come++);
-        else
-            break;
-    }
-    masked = mask;
-}
-
-void board_relays_off(void)
-{
-    relays = false;
-}
-
-void board_halt(void)
-{
-    expect(!relays, "it halts with the relays on");
-    halted = true;
-}
-
-static void power_on(void)
-{
-    static happening *const nothing[] = {NULL};
-    kernel = gritgarland_fresh();
-    current = masked = switches = delivered = 0;
-    started = stopped = in_interrupt = relays = halted = false;
-    during = waiting = bodies[0] = bodies[RELAY_TASK] = bodies[SCREEN_TASK] = NULL;
-    to_come = nothing;
-}
 
 /* ---- other interrupts */
 static void release_interrupt(void)
@@ -216,6 +119,30 @@ static void readiness(void)
     expect(is_stuck(SCREEN_TASK, 0) && !is_stuck(SCREEN_TASK, 1), "resumed, it counts anew");
 }
 
+/* ---- messages: temperatures come to the relay task in their order, and a full queue keeps no more */
+static void probe(void)
+{
+    probe_interrupt(kernel.numbers.time); /* so that each is another */
+}
+
+static void messages(void)
+{
+    static happening *const measured[] = {timer_interrupt, timer_interrupt, probe, timer_interrupt, NULL};
+    static happening *const two_ticks[] = {timer_interrupt, timer_interrupt, NULL};
+    uint32_t element = 99;
+    power_on();
+    expect(start() && send_to(TEMPERATURES, 0, 5) == GRITGARLAND_NO_ERR && send_to(TEMPERATURES, 7, 5) == GRITGARLAND_NO_ERR, "two are stored");
+    to_come = two_ticks;
+    deliver(probe);
+    expect(send_to(TEMPERATURES, 8, 2) == GRITGARLAND_TIMEOUT && kernel.numbers.taken[TEMPERATURES] == 2, "and no third, from whomever");
+    expect(receive_from(TEMPERATURES, 5, &element) == GRITGARLAND_NO_ERR && element == 0, "the oldest, which is 0, at once");
+    expect(receive_from(TEMPERATURES, 5, &element) == GRITGARLAND_NO_ERR && element == 7, "and the other");
+    to_come = measured;
+    expect(receive_from(TEMPERATURES, 5, &element) == GRITGARLAND_NO_ERR && element == 4 && *to_come == timer_interrupt, "one that ends a wait");
+    to_come = two_ticks;
+    expect(receive_from(TEMPERATURES, 2, &element) == GRITGARLAND_TIMEOUT && element == 0, "none for two ticks");
+}
+
 /* ---- a damaged state: relays off, for good */
 static void damage(void)
 {
@@ -275,6 +202,7 @@ int main(void)
 {
     firing();
     readiness();
+    messages();
     damage();
     otherwise();
     if (failures == 0)

@@ -39,13 +39,14 @@ static gritgarland_report ask(uint32_t context, uint32_t service, uint32_t a, ui
 }
 
 /* ---- start-up: everything is created before anything runs */
-enum { RELAY_TASK = 1, SCREEN_TASK = 2, KEY = 1, DOOR = 1, DOOR_SHUT = 1 };
+enum { RELAY_TASK = 1, SCREEN_TASK = 2, KEY = 1, DOOR = 1, DOOR_SHUT = 1, TEMPERATURES = 1 };
 
 static bool start(void)
 {
     uint32_t before = board_mask(); /* no interrupt until the first task runs */
     bool made = ask(GRITGARLAND_T, GRITGARLAND_SEM_CREATE, KEY, 0, 1, 0).code == GRITGARLAND_NO_ERR;
     made = ask(GRITGARLAND_T, GRITGARLAND_EVENT_CREATE, DOOR, GRITGARLAND_ATTR_NEITHER, 0, 0).code == GRITGARLAND_NO_ERR && made;
+    made = ask(GRITGARLAND_T, GRITGARLAND_QUEUE_CREATE, TEMPERATURES, 2, 0, 0).code == GRITGARLAND_NO_ERR && made;
     made = ask(GRITGARLAND_T, GRITGARLAND_TASK_CREATE, SCREEN_TASK, 10, 1, 0).code == GRITGARLAND_NO_ERR && made;
     gritgarland_report r = ask(GRITGARLAND_T, GRITGARLAND_TASK_CREATE, RELAY_TASK, 2, 1, 0);
     started = made && r.code == GRITGARLAND_NO_ERR; /* else a line above is wrong: nothing runs, and the relays stay off */
@@ -71,6 +72,22 @@ static int32_t wait_for(uint32_t flag, uint32_t pattern, uint32_t mode, uint32_t
     gritgarland_report r = ask(GRITGARLAND_T, GRITGARLAND_EVENT_WAIT, flag, pattern, mode, timeout);
     *bits = r.code == GRITGARLAND_PENDING ? kernel.tasks[me].handed : r.value;
     return r.code == GRITGARLAND_PENDING ? gritgarland_wait_code(kernel.tasks[me].code) : r.code;
+}
+
+/* ---- messages: an element that comes at once is the report's value, one that ends a wait stands in the record; either may be 0 */
+static int32_t receive_from(uint32_t queue, uint32_t timeout, uint32_t *element)
+{
+    uint32_t me = current;
+    gritgarland_report r = ask(GRITGARLAND_T, GRITGARLAND_QUEUE_RECEIVE, queue, timeout, 0, 0);
+    *element = r.code == GRITGARLAND_PENDING ? kernel.tasks[me].handed : r.value;
+    return r.code == GRITGARLAND_PENDING ? gritgarland_wait_code(kernel.tasks[me].code) : r.code;
+}
+
+static int32_t send_to(uint32_t queue, uint32_t element, uint32_t timeout)
+{
+    uint32_t me = current;
+    int32_t code = ask(GRITGARLAND_T, GRITGARLAND_QUEUE_SEND, queue, element, timeout, 0).code;
+    return code == GRITGARLAND_PENDING ? gritgarland_wait_code(kernel.tasks[me].code) : code;
 }
 
 /* ---- when a task became ready: asked at once after a wait, the ticks from the wait's end until the task came to run */
@@ -103,6 +120,11 @@ static void key_interrupt(void)
 static void door_interrupt(void)
 {
     ask(GRITGARLAND_I, GRITGARLAND_EVENT_ISET, DOOR, DOOR_SHUT, 0, 0);
+}
+
+static void probe_interrupt(uint32_t temperature)
+{
+    ask(GRITGARLAND_I, GRITGARLAND_QUEUE_ISEND_POLLING, TEMPERATURES, temperature, 0, 0); /* TIMEOUT: the queue is full, and this one is lost */
 }
 
 #endif

@@ -132,7 +132,7 @@ static void refusals(void)
     answers(gritgarland_sem_acquire(&box, GRITGARLAND_T, SENSOR, 0), GRITGARLAND_WRONG_PARAM, SCREEN, "a wait of 0 ticks");
     answers(gritgarland_tick_int_processing(&box, GRITGARLAND_T), GRITGARLAND_WCONTEXT, SCREEN, "a tick that a task plays");
     answers(gritgarland_call_in_place(&box, 2, GRITGARLAND_SEM_ISIGNAL, SENSOR, 0, 0, 0), GRITGARLAND_WRONG_PARAM, SCREEN, "a context that names nothing");
-    answers(gritgarland_call_in_place(&box, GRITGARLAND_I, 34, SENSOR, 0, 0, 0), GRITGARLAND_WRONG_PARAM, SCREEN, "a service that names nothing");
+    answers(gritgarland_call_in_place(&box, GRITGARLAND_I, 42, SENSOR, 0, 0, 0), GRITGARLAND_WRONG_PARAM, SCREEN, "a service that names nothing");
 }
 
 /* A charge never stands at the slice, and nobody but the first of a level has one. A state in which it is otherwise is answered, but not

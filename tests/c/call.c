@@ -7,15 +7,17 @@
 _Static_assert(sizeof(gritgarland_wait) == 12 && offsetof(gritgarland_wait, spare) == 3 && offsetof(gritgarland_wait, remaining) == 4, "a wait");
 _Static_assert(sizeof(gritgarland_task) == 32 && offsetof(gritgarland_task, spare) == 7 && offsetof(gritgarland_task, wait) == 8, "a task's record");
 _Static_assert(offsetof(gritgarland_task, handed) == 20 && offsetof(gritgarland_task, charge) == 24 && offsetof(gritgarland_task, entered) == 28, "its last three numbers");
-_Static_assert(sizeof(gritgarland_queue) == 24 && sizeof(gritgarland_numbers) == 304, "a queue, and the numbers");
-_Static_assert(sizeof(gritgarland_state) == 2352 && sizeof(gritgarland_reply) == 2364, "a state");
+_Static_assert(sizeof(gritgarland_queue) == 24 && sizeof(gritgarland_numbers) == 952, "a queue, and the numbers");
+_Static_assert(sizeof(gritgarland_state) == 3192 && sizeof(gritgarland_reply) == 3204, "a state");
 _Static_assert(offsetof(gritgarland_state, levels) == 800 && offsetof(gritgarland_state, waits) == 1544, "the queues");
-_Static_assert(offsetof(gritgarland_state, numbers) == 2048 && offsetof(gritgarland_state, numbers.time) == 2348, "the numbers");
+_Static_assert(offsetof(gritgarland_state, numbers) == 2240 && offsetof(gritgarland_state, numbers.time) == 2540, "the numbers");
 _Static_assert(offsetof(gritgarland_numbers, slices) == 0 && offsetof(gritgarland_numbers, counts) == 124, "the levels' numbers");
 _Static_assert(offsetof(gritgarland_numbers, maxima) == 176 && offsetof(gritgarland_numbers, attributes) == 228, "the semaphores' numbers");
 _Static_assert(offsetof(gritgarland_numbers, bits) == 264 && offsetof(gritgarland_numbers, time) == 300, "the flags' numbers");
+_Static_assert(offsetof(gritgarland_numbers, capacities) == 304 && offsetof(gritgarland_numbers, taken) == 340, "the data queues' numbers");
+_Static_assert(offsetof(gritgarland_numbers, elements[1]) == 440 && offsetof(gritgarland_numbers, elements[8][15]) == 948, "their elements");
 
-enum { SERVICES = 33 };
+enum { SERVICES = 41 };
 
 static int failures;
 static gritgarland_state now;
@@ -78,6 +80,38 @@ static void flags(void)
     ask4(GRITGARLAND_I, GRITGARLAND_EVENT_IWAIT, 8, 8, GRITGARLAND_OR, 0, GRITGARLAND_NO_ERR, 1, 9, "a poll from an interrupt");
     ask(GRITGARLAND_T, GRITGARLAND_EVENT_DELETE, 1, 0, 0, GRITGARLAND_NO_ERR, 1, "delete a flag");
     ask(GRITGARLAND_T, GRITGARLAND_EVENT_SET, 1, 1, 0, GRITGARLAND_NOEXS, 1, "a flag that is not created");
+}
+
+/* Task 1 runs alone, at level 5. */
+static void queues(void)
+{
+    ask(GRITGARLAND_T, GRITGARLAND_QUEUE_CREATE, 8, 2, 0, GRITGARLAND_NO_ERR, 1, "create a data queue");
+    ask(GRITGARLAND_T, GRITGARLAND_QUEUE_CREATE, 8, 2, 0, GRITGARLAND_WRONG_PARAM, 1, "a data queue that exists");
+    ask(GRITGARLAND_T, GRITGARLAND_QUEUE_CREATE, 7, GRITGARLAND_CAPACITY_MOST + 1, 0, GRITGARLAND_WRONG_PARAM, 1, "a capacity of 17");
+    expect(now.numbers.capacities[8] == 3 && now.numbers.taken[8] == 0, "the numbers of an empty one");
+    ask(GRITGARLAND_T, GRITGARLAND_QUEUE_RECEIVE_POLLING, 8, 0, 0, GRITGARLAND_TIMEOUT, 1, "a poll of an empty queue");
+    ask(GRITGARLAND_T, GRITGARLAND_QUEUE_SEND, 8, 0, 1, GRITGARLAND_NO_ERR, 1, "an element 0 is stored");
+    ask(GRITGARLAND_T, GRITGARLAND_QUEUE_SEND_POLLING, 8, UINT32_MAX, 0, GRITGARLAND_NO_ERR, 1, "and the largest");
+    expect(now.numbers.taken[8] == 2 && now.numbers.elements[8][0] == 0 && now.numbers.elements[8][1] == UINT32_MAX, "the oldest first");
+    ask(GRITGARLAND_I, GRITGARLAND_QUEUE_ISEND_POLLING, 8, 5, 0, GRITGARLAND_TIMEOUT, 1, "a send to a full queue by an interrupt");
+    ask(GRITGARLAND_T, GRITGARLAND_QUEUE_SEND_POLLING, 8, 5, 0, GRITGARLAND_TIMEOUT, 1, "and by a task");
+    ask(GRITGARLAND_T, GRITGARLAND_QUEUE_SEND, 8, 5, 0, GRITGARLAND_WRONG_PARAM, 1, "a send for 0 ticks");
+    ask(GRITGARLAND_T, GRITGARLAND_QUEUE_SEND, 8, 5, GRITGARLAND_ENDLESS, GRITGARLAND_PENDING, 0, "task 1 waits with its element");
+    expect(now.waits[28].places[0] == 1 && now.tasks[1].wait.kind == 4 && now.tasks[1].wait.object == 8 && now.tasks[1].wait.pattern == 5, "the row of the queue");
+    ask(GRITGARLAND_T, GRITGARLAND_QUEUE_SEND, 8, 6, 1, GRITGARLAND_WCONTEXT, 0, "nobody runs");
+    ask4(GRITGARLAND_I, GRITGARLAND_QUEUE_IRECEIVE, 8, 0, 0, 0, GRITGARLAND_NO_ERR, 1, 0, "the element 0 is received");
+    expect(now.tasks[1].code == 0 && now.tasks[1].handed == 0 && now.numbers.taken[8] == 2 && now.numbers.elements[8][1] == 5, "and the waiting one stored");
+    ask4(GRITGARLAND_T, GRITGARLAND_QUEUE_RECEIVE, 8, 1, 0, 0, GRITGARLAND_NO_ERR, 1, UINT32_MAX, "the next at once");
+    ask4(GRITGARLAND_T, GRITGARLAND_QUEUE_RECEIVE_POLLING, 8, 0, 0, 0, GRITGARLAND_NO_ERR, 1, 5, "and the last by a poll");
+    expect(now.numbers.taken[8] == 0 && now.numbers.elements[8][0] == 0 && now.tasks[1].handed == 0, "all places are 0, and the record stays");
+    ask(GRITGARLAND_T, GRITGARLAND_QUEUE_RECEIVE, 8, 9, 0, GRITGARLAND_PENDING, 0, "task 1 waits for an element");
+    expect(now.waits[28].places[0] == 1 && now.tasks[1].wait.kind == 5 && now.tasks[1].wait.pattern == 0, "in the same row");
+    ask(GRITGARLAND_I, GRITGARLAND_QUEUE_ISEND_POLLING, 8, 77, 0, GRITGARLAND_NO_ERR, 1, "a send hands over");
+    expect(now.tasks[1].handed == 77 && now.tasks[1].code == 0 && now.numbers.taken[8] == 0, "to the record, past the places");
+    ask(GRITGARLAND_T, GRITGARLAND_QUEUE_RECEIVE, 8, 9, 0, GRITGARLAND_PENDING, 0, "task 1 waits again");
+    ask(GRITGARLAND_T, GRITGARLAND_QUEUE_DELETE, 8, 0, 0, GRITGARLAND_NO_ERR, 1, "delete the queue");
+    expect(now.tasks[1].code == 10 && now.tasks[1].handed == 0 && now.numbers.capacities[8] == 0, "its waiter is told");
+    ask(GRITGARLAND_T, GRITGARLAND_QUEUE_SEND, 8, 1, 1, GRITGARLAND_NOEXS, 1, "a data queue that is not created");
 }
 
 /* Task 1 runs, at level 5; task 2 is dormant. At the end task 2 and semaphore 1 are gone. */
@@ -144,6 +178,18 @@ static void upper_bits(void)
     too_large(&now.numbers.attributes[8], 256 + 1, "attributes that are 1 in 8 bits");
     too_large(&now.numbers.attributes[8], 65536 + 1, "attributes that are 1 in 16 bits");
     too_large(&now.numbers.attributes[1], 256, "attributes that are 0 in 8 bits");
+    ask(GRITGARLAND_T, GRITGARLAND_QUEUE_CREATE, 1, 2, 0, GRITGARLAND_NO_ERR, 1, "a data queue of two places");
+    too_large(&now.numbers.capacities[1], 18, "a capacity of 17");
+    too_large(&now.numbers.capacities[1], 256 + 3, "a capacity that is 2 in 8 bits");
+    too_large(&now.numbers.capacities[2], 256, "a capacity that is none in 8 bits");
+    too_large(&now.numbers.taken[1], 3, "three elements in two places");
+    too_large(&now.numbers.taken[1], 256 + 1, "a number of elements that is 1 in 8 bits");
+    too_large(&now.numbers.taken[2], 1, "an element of a queue that is not created");
+    too_large(&now.numbers.elements[1][0], 1, "a place past the last element");
+    too_large(&now.numbers.elements[1][15], 65536, "and the last of them");
+    too_large(&now.numbers.capacities[0], 1, "a capacity of queue 0");
+    too_large(&now.numbers.taken[0], 1, "an element of queue 0");
+    too_large(&now.numbers.elements[0][15], 1, "a place of queue 0");
     too_large(&now.numbers.slices[0], 65536, "a slice of level 0");
     too_large(&now.numbers.counts[0], 65536, "a count of semaphore 0");
     too_large(&now.numbers.attributes[0], 256, "attributes of flag 0");
@@ -176,7 +222,7 @@ int main(void)
     ask(GRITGARLAND_T, GRITGARLAND_TASK_RESUME, 1, 0, 0, GRITGARLAND_WSTATE, 1, "a task that is not suspended");
     ask(2, GRITGARLAND_TASK_EXIT, 0, 0, 0, GRITGARLAND_WRONG_PARAM, 1, "a context that names nothing");
     ask(GRITGARLAND_T, 0, 0, 0, 0, GRITGARLAND_WRONG_PARAM, 1, "service 0");
-    ask(GRITGARLAND_T, SERVICES + 1, 0, 0, 0, GRITGARLAND_WRONG_PARAM, 1, "service 34");
+    ask(GRITGARLAND_T, SERVICES + 1, 0, 0, 0, GRITGARLAND_WRONG_PARAM, 1, "service 42");
 
     ask(GRITGARLAND_T, GRITGARLAND_TASK_SLEEP, 65535, 0, 0, GRITGARLAND_PENDING, 0, "a sleep of 65,535");
     for (uint32_t i = 1; i < 65535; i++)
@@ -186,6 +232,7 @@ int main(void)
 
     the_others();
     flags();
+    queues();
     for (int service = 1; service <= SERVICES; service++)
         expect(accepted[service], "a service that no call named");
 

@@ -7,10 +7,10 @@
 
 _Static_assert(sizeof(gritgarland_report) == 12, "a report");
 
-enum { SERVICES = 33, NUMBERS = 4 };
+enum { SERVICES = 41, NUMBERS = 4 };
 
 /* how many numbers each service takes */
-static const uint32_t takes[SERVICES + 1] = {0, 3, 1, 1, 1, 0, 1, 1, 1, 1, 1, 1, 1, 1, 2, 2, 0, 3, 1, 1, 1, 2, 1, 1, 3, 1, 2, 2, 2, 2, 4, 3, 3, 1};
+static const uint32_t takes[SERVICES + 1] = {0, 3, 1, 1, 1, 0, 1, 1, 1, 1, 1, 1, 1, 1, 2, 2, 0, 3, 1, 1, 1, 2, 1, 1, 3, 1, 2, 2, 2, 2, 4, 3, 3, 1, 2, 1, 3, 2, 2, 2, 1, 1};
 
 static int failures;
 static gritgarland_reply replies[SERVICES + 1];
@@ -61,6 +61,14 @@ static gritgarland_report by_name(gritgarland_state *s, uint32_t context, uint32
     case 31: return gritgarland_event_wait_polling(s, context, n[0], n[1], n[2]);
     case 32: return gritgarland_event_iwait(s, context, n[0], n[1], n[2]);
     case 33: return gritgarland_ready_ticks(s, context, n[0]);
+    case 34: return gritgarland_queue_create(s, context, n[0], n[1]);
+    case 35: return gritgarland_queue_delete(s, context, n[0]);
+    case 36: return gritgarland_queue_send(s, context, n[0], n[1], n[2]);
+    case 37: return gritgarland_queue_send_polling(s, context, n[0], n[1]);
+    case 38: return gritgarland_queue_isend_polling(s, context, n[0], n[1]);
+    case 39: return gritgarland_queue_receive(s, context, n[0], n[1]);
+    case 40: return gritgarland_queue_receive_polling(s, context, n[0]);
+    case 41: return gritgarland_queue_ireceive(s, context, n[0]);
     default: return gritgarland_call_in_place(s, context, service, n[0], n[1], n[2], n[3]);
     }
 }
@@ -141,6 +149,8 @@ static const struct {
     {0, 17, {2, 2, 4, 0}, 0},  /* semaphore 2, not empty */
     {0, 24, {1, 0, 6, 0}, 0},  /* flag 1, with bits */
     {0, 24, {2, 3, 0, 0}, 0},  /* flag 2, SINGLE and CLR */
+    {0, 34, {1, 1, 0, 0}, 0},  /* data queue 1, of one place */
+    {0, 34, {2, 0, 0, 0}, 0},  /* data queue 2, without capacity */
     {0, 1, {1, 2, 1, 0}, 0},   /* task 1 runs */
     {0, 1, {2, 3, 0, 0}, 0},   /* task 2 is dormant */
     {0, 1, {3, 2, 1, 0}, 0},   /* task 3 is ready behind task 1 */
@@ -153,6 +163,11 @@ static const struct {
     {0, 30, {2, 3, 1, 4}, 1},  /* and waits on flag 2 */
     {1, 27, {2, 7, 0, 0}, 0},  /* a set serves it */
     {1, 16, {0, 0, 0, 0}, 0},  /* a tick */
+    {0, 36, {1, 9, 2, 0}, 0},  /* task 3 fills queue 1 */
+    {0, 36, {1, 8, 2, 0}, 1},  /* and waits with one element more */
+    {1, 41, {1, 0, 0, 0}, 0},  /* which goes in as the first comes out */
+    {0, 39, {2, 3, 0, 0}, 1},  /* task 3 waits for an element of queue 2 */
+    {1, 38, {2, 7, 0, 0}, 0},  /* and gets it */
 };
 
 int main(void)
@@ -162,7 +177,7 @@ int main(void)
     every_order(&now);
     for (size_t i = 0; i < sizeof play / sizeof play[0]; i++) {
         expect(by_name(&now, play[i].context, play[i].service, play[i].n).code == play[i].code, "the play", play[i].service);
-        if (i >= 5)
+        if (i >= 7)
             every_order(&now);
     }
     now.tasks[3].wakeups = 2;

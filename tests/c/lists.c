@@ -72,6 +72,12 @@ static const char waits_six[] = HEADER_SIX "T,tn_event_create,1,0,0,\nT,tn_sem_c
     "I,tn_sem_isignal,1,,,\nT,tn_task_sleep,*,,,\nI,tn_tick_int_processing,,,,\nI,tn_task_iwakeup,1,,,\nT,tn_event_wait,1,1,0,*\n";
 static const char waits_six_answer[] = "n,code,running\r\n1,0,0\r\n2,0,0\r\n3,0,1\r\n4,1,0\r\n5,0,1\r\n6,1,0\r\n7,0,0\r\n8,0,1\r\n9,1,0\r\n";
 
+/* a sender waits outside a queue of one place, a receiver at one without capacity; the words of timeouts are in both */
+static const char messages[] = HEADER "T,tn_queue_create,1,1,\nT,tn_queue_create,8,0,\nT,tn_task_create,1,5,1\nT,tn_queue_send,1,4294967295,*\nT,tn_queue_send,1,0,*\n"
+    "I,tn_tick_int_processing,,,\nI,tn_queue_ireceive,1,,\nT,tn_queue_receive,1,*,\nT,tn_queue_receive_polling,1,,\nT,tn_queue_receive,8,*,\nI,tn_queue_isend_polling,8,7,\n"
+    "T,tn_queue_send_polling,8,7,\nT,tn_queue_delete,8,,\n";
+static const char messages_answer[] = "n,code,running\r\n1,0,0\r\n2,0,0\r\n3,0,1\r\n4,0,1\r\n5,1,0\r\n6,0,0\r\n7,0,1\r\n8,0,1\r\n9,-4,1\r\n10,1,0\r\n11,0,1\r\n12,-4,1\r\n13,0,1\r\n";
+
 /* the list with this for its stars, these line ends, and none after the last line */
 static size_t put_with(const char *text, const char *star, const char *line_end)
 {
@@ -92,6 +98,8 @@ static void endless(const char *star, const char *line_end)
     size_t n = put_with(waits, star, line_end);
     run(n, 4096, sizeof waits_answer - 1, waits_answer, "endless waits under five fields");
     run(n + length(line_end), 4096, sizeof waits_answer - 1, waits_answer, "and with an end of the last line");
+    n = put_with(messages, star, line_end);
+    run(n, 4096, sizeof messages_answer - 1, messages_answer, "endless waits on data queues");
     n = put_with(waits_six, star, line_end);
     run(n, 4096, sizeof waits_six_answer - 1, waits_six_answer, "endless waits under six fields");
     run(n + length(line_end), 4096, sizeof waits_six_answer - 1, waits_six_answer, "and with an end of their last line");
@@ -130,6 +138,14 @@ int main(void)
     unreadable("T,ready_ticks,1,,\n", "a service that no list holds");
     unreadable("I,ready_ticks,1,,\n", "from an interrupt too");
     unreadable("T,tn_ready_ticks,1,,\n", "and by no other name");
+    unreadable("I,tn_queue_isend,1,7,\n", "a name that TNKernel has not");
+    unreadable("I,tn_queue_ireceive_polling,1,,\n", "nor this");
+    unreadable("T,tn_queue_create,1,,\n", "a data queue without its capacity");
+    unreadable("T,tn_queue_create,1,4,0\n", "or with a start value");
+    unreadable("T,tn_queue_send,1,7,\n", "a send without its timeout");
+    unreadable("T,tn_queue_send_polling,1,7,5\n", "a polling send with one");
+    unreadable("T,tn_queue_send,1,forever,5\n", "the word for an element");
+    unreadable("T,tn_queue_receive,forever,5,\n", "and for a data queue");
     unreadable("T,tn_task_exit,0,,\n", "an unused field that is filled");
     unreadable("T,tn_task_sleep,,,\n", "a used field that is blank");
     unreadable("T,tn_task_sleep,01,,\n", "a needless leading zero");

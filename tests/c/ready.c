@@ -50,6 +50,7 @@ static void set_up(uint32_t time)
     s.numbers.time = time;
     gritgarland_sem_create(&s, GRITGARLAND_T, 1, 0, 1);
     gritgarland_event_create(&s, GRITGARLAND_T, 1, GRITGARLAND_ATTR_NEITHER, 0);
+    gritgarland_queue_create(&s, GRITGARLAND_T, 1, 0);
     done(gritgarland_task_create(&s, GRITGARLAND_T, 1, 5, 1), GRITGARLAND_NO_ERR, 1, "task 1");
     is_ready_for(1, 0, "created with option 1: now");
     gritgarland_task_create(&s, GRITGARLAND_T, 2, 6, 1);
@@ -109,6 +110,14 @@ static void waits(uint32_t time)
     is_ready_for(1, 3, "the ticks of a waiter go on");
     done(gritgarland_sem_isignal(&s, GRITGARLAND_I, 1), GRITGARLAND_NO_ERR, 1, "a release");
     is_ready_for(1, 0, "a wait that is served enters");
+    done(gritgarland_queue_receive(&s, GRITGARLAND_T, 1, 9), GRITGARLAND_PENDING, 2, "waits for an element");
+    tick(2);
+    is_ready_for(1, 2, "the ticks of a receiver go on");
+    done(gritgarland_queue_isend_polling(&s, GRITGARLAND_I, 1, 7), GRITGARLAND_NO_ERR, 1, "which comes");
+    is_ready_for(1, 0, "a hand-over enters");
+    done(gritgarland_queue_send(&s, GRITGARLAND_T, 1, 7, 1), GRITGARLAND_PENDING, 2, "waits with an element");
+    tick(1);
+    is_ready_for(1, 0, "and enters where its ticks run out");
     done(gritgarland_event_wait(&s, GRITGARLAND_T, 1, 1, GRITGARLAND_OR, 9), GRITGARLAND_PENDING, 2, "waits for a flag");
     done(gritgarland_task_suspend(&s, GRITGARLAND_T, 1), GRITGARLAND_NO_ERR, 2, "suspended while it waits");
     tick(4);

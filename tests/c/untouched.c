@@ -5,7 +5,7 @@
 #include "libc.h"
 #include "same.h"
 
-enum { SERVICES = 33, CODES = 13, NUMBERS = 4, ROUNDS = 120, CALLS = 200, TIMES = 5, KEPT = 3 };
+enum { SERVICES = 41, CODES = 13, NUMBERS = 4, ROUNDS = 120, CALLS = 200, TIMES = 5, KEPT = 3 };
 
 #define BY(code) (1u << -(code))
 #define RANGE BY(GRITGARLAND_WRONG_PARAM)
@@ -19,7 +19,8 @@ static const uint32_t refuses[SERVICES + 1] = {
     RANGE, RANGE, EXISTS, COUNTS, COUNTS, 0, EXISTS, COUNTS | BY(GRITGARLAND_WSTATE), EXISTS | BY(GRITGARLAND_WSTATE), RANGE, COUNTS, COUNTS,
     EXISTS, EXISTS, EXISTS, RANGE, 0,
     RANGE, EXISTS, COUNTS, COUNTS, EXISTS, EMPTY, EMPTY,
-    RANGE, EXISTS, EXISTS, EXISTS, EXISTS, EXISTS, EXISTS | OCCUPIED, EMPTY | OCCUPIED, EMPTY | OCCUPIED, EXISTS};
+    RANGE, EXISTS, EXISTS, EXISTS, EXISTS, EXISTS, EXISTS | OCCUPIED, EMPTY | OCCUPIED, EMPTY | OCCUPIED, EXISTS,
+    RANGE, EXISTS, EXISTS, EMPTY, EMPTY, EXISTS, EMPTY, EMPTY};
 
 static int failures;
 static struct {
@@ -48,8 +49,8 @@ static uint32_t chance(uint32_t below)
 /* what a call may find on the stack, where it leaves room for its own */
 __attribute__((noinline)) static void litter(uint64_t word)
 {
-    volatile uint64_t stack[2400]; /* more than a call takes */
-    for (size_t i = 0; i < 2400; i++)
+    volatile uint64_t stack[4000]; /* more than a call takes */
+    for (size_t i = 0; i < 4000; i++)
         stack[i] = word;
     (void)stack[0];
 }
@@ -140,7 +141,8 @@ static void random_call(void)
     numbers(n);
     uint32_t context = chance(50) == 0 ? nothing[chance(7)] : chance(2);
     uint32_t service = chance(50) == 0 ? SERVICES - 2 + nothing[chance(6)] : chance(SERVICES + 1);
-    if ((service == GRITGARLAND_TASK_DELETE || service == GRITGARLAND_SEM_DELETE || service == GRITGARLAND_EVENT_DELETE) && chance(4) != 0)
+    if ((service == GRITGARLAND_TASK_DELETE || service == GRITGARLAND_SEM_DELETE || service == GRITGARLAND_EVENT_DELETE || service == GRITGARLAND_QUEUE_DELETE) &&
+        chance(4) != 0)
         service--; /* so that more is created than deleted */
     gritgarland_report r = ask(context, service, n);
     expect(r.code != GRITGARLAND_UNSOUND, "a state that calls led to is unsound", service);
@@ -148,12 +150,13 @@ static void random_call(void)
         expect(r.code == GRITGARLAND_WRONG_PARAM, "a number that names nothing", service);
 }
 
-/* tasks 1 to 6, a semaphore and a SINGLE flag */
+/* tasks 1 to 6, a semaphore, a data queue without capacity and a SINGLE flag */
 static void set_up(void)
 {
     for (uint32_t task = 1; task <= 6; task++)
         ask(GRITGARLAND_T, GRITGARLAND_TASK_CREATE, (uint32_t[NUMBERS]){task, 1 + chance(3), 1, 0});
     ask(GRITGARLAND_T, GRITGARLAND_SEM_CREATE, (uint32_t[NUMBERS]){1, 0, 2, 0});
+    ask(GRITGARLAND_T, GRITGARLAND_QUEUE_CREATE, (uint32_t[NUMBERS]){1, 0, 0, 0});
     ask(GRITGARLAND_T, GRITGARLAND_EVENT_CREATE, (uint32_t[NUMBERS]){1, GRITGARLAND_ATTR_SINGLE, 0, 0});
     ask(GRITGARLAND_T, GRITGARLAND_EVENT_WAIT, (uint32_t[NUMBERS]){1, 8, GRITGARLAND_OR, GRITGARLAND_ENDLESS});
 }
@@ -183,7 +186,8 @@ static void every_service(void)
 static int must_be_zero(size_t at)
 {
     static const size_t first[] = {offsetof(gritgarland_numbers, slices), offsetof(gritgarland_numbers, counts), offsetof(gritgarland_numbers, maxima),
-        offsetof(gritgarland_numbers, attributes), offsetof(gritgarland_numbers, bits)};
+        offsetof(gritgarland_numbers, attributes), offsetof(gritgarland_numbers, bits), offsetof(gritgarland_numbers, capacities),
+        offsetof(gritgarland_numbers, taken)};
     size_t in_task = at % sizeof(gritgarland_task);
     if (at < offsetof(gritgarland_state, levels))
         return at < sizeof(gritgarland_task) || in_task == 7 || in_task == 11;
@@ -192,7 +196,7 @@ static int must_be_zero(size_t at)
     for (size_t i = 0; i < sizeof first / sizeof first[0]; i++)
         if (at - offsetof(gritgarland_state, numbers) - first[i] < 4)
             return 1;
-    return 0;
+    return at - offsetof(gritgarland_state, numbers.elements) < 4 * GRITGARLAND_CAPACITY_MOST;
 }
 
 static void damaged(const gritgarland_state *whole)

@@ -1,13 +1,14 @@
 //! Repeatable random calls, rich in waits, suspended waiters, timeouts, restarts, slices and numbers at the limits.
-//! A run draws most of its numbers from a small world of its own, so that its tasks, semaphores and flags meet often.
+//! A run draws most of its numbers from a small world of its own, so that its tasks, semaphores, flags and data queues meet often.
 
+use crate::gen_numbers::some;
 pub use crate::rng::Rng;
 use crate::services::*;
 
 /// Numbers at and past every limit.
 #[rustfmt::skip]
-pub const LIMITS: [u32; 27] = [
-    0, 1, 2, 3, 4, 7, 8, 9, 11, 12, 13, 23, 24, 25, 29, 30, 31, 255, 256, 257, 999, 1000, 1001, 65_535, 65_536, u32::MAX - 1, u32::MAX,
+pub const LIMITS: [u32; 30] = [
+    0, 1, 2, 3, 4, 7, 8, 9, 11, 12, 13, 16, 17, 18, 23, 24, 25, 29, 30, 31, 255, 256, 257, 999, 1000, 1001, 65_535, 65_536, u32::MAX - 1, u32::MAX,
 ];
 
 /// How often each service is asked for, beside each other.
@@ -44,24 +45,35 @@ const WEIGHTS: [(u32, usize); LAST as usize] = [
     (EVENT_WAIT, 18),
     (EVENT_POLLING, 4),
     (EVENT_IWAIT, 4),
-    (READY_TICKS, 6), // the last, so that lists go without it
+    (READY_TICKS, 6),
+    (QUEUE_CREATE, 5),
+    (QUEUE_DELETE, 2),
+    (SEND, 10),
+    (SEND_POLLING, 6),
+    (ISEND_POLLING, 8),
+    (RECEIVE, 10),
+    (RECEIVE_POLLING, 6),
+    (IRECEIVE, 8),
 ];
 
-/// The small world of one run: which tasks, levels, semaphores and flags it mostly names, and how it behaves.
+/// The small world of one run: which tasks, levels, semaphores, flags and data queues it mostly names, and how it behaves.
 pub struct World {
     pub rng: Rng,
-    tasks: Vec<u32>,
-    levels: Vec<u32>,
-    semaphores: Vec<u32>,
-    flags: Vec<u32>,
+    pub(crate) tasks: Vec<u32>,
+    pub(crate) levels: Vec<u32>,
+    pub(crate) semaphores: Vec<u32>,
+    pub(crate) flags: Vec<u32>,
+    pub(crate) queues: Vec<u32>,
     narrow: bool, // no call takes four numbers
-    last: u32,    // the last service that it asks for
-    longest_slice: u32,
-    wild: usize,    // percent of calls with any numbers at all
-    ticks: usize,   // percent of calls that are ticks beyond their weight
-    patient: usize, // percent of timeouts that are long
-    crowd: usize,   // percent of the first tasks that wait at once
-    eager: usize,   // percent of new tasks that are made runnable
+    listed: bool, // a list can hold its calls
+    pub(crate) longest_slice: u32,
+    pub(crate) largest: u32,   // the largest capacity of its data queues, but for a few
+    wild: usize,               // percent of calls with any numbers at all
+    ticks: usize,              // percent of calls that are ticks beyond their weight
+    pub(crate) patient: usize, // percent of timeouts that are long
+    crowd: usize,              // percent of the first tasks that wait at once
+    pub(crate) eager: usize,   // percent of new tasks that are made runnable
+    generous: usize,           // percent of sends, among sends and receives
 }
 
 impl World {
@@ -71,22 +83,29 @@ impl World {
         let most_tasks = if crowd > 0 { 40 } else { rng.pick(&[4, 8, 8, 80]) };
         let tasks = some(&mut rng, 24, most_tasks);
         let most_levels = rng.pick(&[1, 4, 4]);
-        let levels = some(&mut rng, 30, most_levels);
-        let semaphores = some(&mut rng, 12, 3);
-        let flags = some(&mut rng, 8, 2);
-        let narrow = rng.percent(25);
-        let longest_slice = rng.pick(&[1, 2, 3, 5, 1000]);
-        let wild = rng.pick(&[1, 3, 3, 10, 40]);
-        let ticks = rng.pick(&[0, 5, 20, 50]);
-        let patient = rng.pick(&[10, 10, 40, 80]);
-        let eager = rng.pick(&[50, 80, 100]);
-        let last = LAST;
-        World { rng, tasks, levels, semaphores, flags, narrow, last, longest_slice, wild, ticks, patient, crowd, eager }
+        World {
+            levels: some(&mut rng, 30, most_levels),
+            semaphores: some(&mut rng, 12, 3),
+            flags: some(&mut rng, 8, 2),
+            queues: some(&mut rng, 8, 2),
+            narrow: rng.percent(25),
+            listed: false,
+            longest_slice: rng.pick(&[1, 2, 3, 5, 1000]),
+            largest: rng.pick(&[0, 1, 2, 4, 16]),
+            wild: rng.pick(&[1, 3, 3, 10, 40]),
+            ticks: rng.pick(&[0, 5, 20, 50]),
+            patient: rng.pick(&[10, 10, 40, 80]),
+            eager: rng.pick(&[50, 80, 100]),
+            generous: rng.pick(&[20, 50, 50, 80, 95]),
+            crowd,
+            tasks,
+            rng,
+        }
     }
 
     /// A world whose calls a list can hold.
     pub fn of_lists(seed: u64) -> World {
-        World { last: LAST_IN_LISTS, ..World::new(seed) }
+        World { listed: true, ..World::new(seed) }
     }
 
     /// The calls of a whole run: most of its objects are made first, then anything may happen.
@@ -102,21 +121,27 @@ impl World {
                 calls.push(self.event_create(f));
             }
         }
+        for q in self.queues.clone() {
+            if self.rng.percent(90) {
+                calls.push(self.queue_create(q));
+            }
+        }
         for p in self.levels.clone() {
             if self.rng.percent(60) {
                 calls.push(Call::of(TSLICE, p, self.rng.from(0, self.longest_slice), 0));
             }
         }
-        let flagged = !self.narrow && self.rng.percent(50);
+        let crowded = self.rng.pick(&[ACQUIRE, EVENT_WAIT, SEND, RECEIVE]);
         for t in self.tasks.clone() {
             if self.rng.percent(97) {
                 calls.push(self.task_create(t));
             }
             if self.rng.percent(self.crowd) {
-                calls.push(if flagged {
-                    Call::wait(self.flags[0], self.rng.from(4, 7), 1, u32::MAX)
-                } else {
-                    Call::of(ACQUIRE, self.semaphores[0], u32::MAX, 0)
+                calls.push(match crowded {
+                    EVENT_WAIT if !self.narrow => Call::wait(self.flags[0], self.rng.from(4, 7), 1, u32::MAX),
+                    SEND => Call::of(SEND, self.queues[0], t, u32::MAX),
+                    RECEIVE => Call::of(RECEIVE, self.queues[0], u32::MAX, 0),
+                    _ => Call::of(ACQUIRE, self.semaphores[0], u32::MAX, 0),
                 });
             }
         }
@@ -152,16 +177,20 @@ impl World {
     }
 
     fn service(&mut self) -> u32 {
-        let weights = &WEIGHTS[..self.last as usize];
-        let all: usize = weights.iter().map(|&(_, weight)| weight).sum();
-        let mut at = self.rng.below(all);
-        for &(service, weight) in weights {
+        let weights: Vec<(u32, usize)> = WEIGHTS.into_iter().filter(|&(service, _)| self.has(service)).collect();
+        let mut at = self.rng.below(weights.iter().map(|&(_, weight)| weight).sum());
+        for (service, weight) in weights {
             if at < weight {
-                return self.within_width(service);
+                return self.leaning(self.within_width(service));
             }
             at -= weight;
         }
         TICK
+    }
+
+    /// May its calls be of this service?
+    fn has(&self, service: u32) -> bool {
+        !(self.listed && service == READY_TICKS)
     }
 
     fn within_width(&self, service: u32) -> u32 {
@@ -169,6 +198,16 @@ impl World {
             EVENT_POLLING
         } else {
             service
+        }
+    }
+
+    /// Sends and receives in the world's own proportion, so that its data queues fill up or are empty most of the time.
+    fn leaning(&mut self, service: u32) -> u32 {
+        let sends = (SEND..=IRECEIVE).contains(&service).then(|| self.rng.percent(self.generous));
+        match (service, sends) {
+            (SEND..=ISEND_POLLING, Some(false)) => service + (RECEIVE - SEND),
+            (RECEIVE..=IRECEIVE, Some(true)) => service - (RECEIVE - SEND),
+            _ => service,
         }
     }
 
@@ -199,13 +238,22 @@ impl World {
             EVENT_WAIT => Call::wait(self.flag(), self.pattern(), self.mode(), self.timeout()),
             EVENT_POLLING | EVENT_IWAIT => Call::of(service, self.flag(), self.pattern(), self.mode()),
             SEM_DELETE | SIGNAL | ISIGNAL | POLLING | IPOLLING => Call::of(service, self.semaphore(), 0, 0),
+            QUEUE_CREATE => {
+                let q = self.queue();
+                self.queue_create(q)
+            }
+            SEND => Call::of(SEND, self.queue(), self.element(), self.timeout()),
+            SEND_POLLING | ISEND_POLLING => Call::of(service, self.queue(), self.element(), 0),
+            RECEIVE => Call::of(RECEIVE, self.queue(), self.timeout(), 0),
+            QUEUE_DELETE | RECEIVE_POLLING | IRECEIVE => Call::of(service, self.queue(), 0, 0),
             _ => Call::of(service, self.task(), 0, 0),
         }
     }
 
     /// Any service in any context with any numbers near a limit.
     fn wild_call(&mut self) -> Call {
-        let service = self.rng.from(CREATE, self.last);
+        let services: Vec<u32> = (CREATE..=LAST).filter(|&service| self.has(service)).collect();
+        let service = self.rng.pick(&services);
         Call {
             context: self.rng.from(T, I),
             service: self.within_width(service),
@@ -215,82 +263,4 @@ impl World {
             d: self.wild_number(),
         }
     }
-
-    pub fn wild_number(&mut self) -> u32 {
-        match self.rng.below(4) {
-            0 => self.rng.any() as u32,
-            1 => self.rng.from(0, 31),
-            _ => self.rng.pick(&LIMITS),
-        }
-    }
-
-    fn task_create(&mut self, task: u32) -> Call {
-        let option = u32::from(self.rng.percent(self.eager));
-        Call::of(CREATE, task, self.level(), option)
-    }
-
-    fn sem_create(&mut self, semaphore: u32) -> Call {
-        let maximum = self.rng.pick(&[1, 1, 1, 2, 3, 65_535]);
-        let start = match self.rng.below(4) {
-            0 => maximum,
-            1 => maximum - 1,
-            _ => 0,
-        };
-        Call::of(SEM_CREATE, semaphore, start, maximum)
-    }
-
-    fn event_create(&mut self, flag: u32) -> Call {
-        let attributes = self.rng.pick(&[0, 0, 1, 3]);
-        let bits = if self.rng.percent(60) { 0 } else { self.pattern() };
-        Call::of(EVENT_CREATE, flag, attributes, bits)
-    }
-
-    /// A few low bits, so that waits are met and missed; now and then all bits or the highest.
-    fn pattern(&mut self) -> u32 {
-        match self.rng.below(12) {
-            0 => self.rng.pick(&[0, u32::MAX, 1 << 31, 6 << 29]),
-            _ => self.rng.from(1, 7),
-        }
-    }
-
-    fn mode(&mut self) -> u32 {
-        self.rng.from(0, 1)
-    }
-
-    fn flag(&mut self) -> u32 {
-        self.rng.pick(&self.flags)
-    }
-
-    fn task(&mut self) -> u32 {
-        self.rng.pick(&self.tasks)
-    }
-
-    fn level(&mut self) -> u32 {
-        self.rng.pick(&self.levels)
-    }
-
-    fn semaphore(&mut self) -> u32 {
-        self.rng.pick(&self.semaphores)
-    }
-
-    fn timeout(&mut self) -> u32 {
-        if self.rng.percent(self.patient) {
-            return self.rng.pick(&[u32::MAX, u32::MAX, 65_535, 65_536, u32::MAX - 1, 0]);
-        }
-        match self.rng.below(10) {
-            0 | 1 => self.rng.from(5, 40),
-            _ => self.rng.from(1, 4),
-        }
-    }
-}
-
-/// From one to `most` different numbers of 1..=`last`; all of them if there are not so many.
-fn some(rng: &mut Rng, last: u32, most: u32) -> Vec<u32> {
-    let mut numbers: Vec<u32> = (1..=last).collect();
-    for place in 0..numbers.len() {
-        let other = place + rng.below(numbers.len() - place);
-        numbers.swap(place, other);
-    }
-    numbers.truncate(rng.from(1, most) as usize);
-    numbers
 }

@@ -3,7 +3,7 @@
 
 use crate::gen::Rng;
 use crate::kernel::FOREVER;
-use crate::services::{Call, ACQUIRE, EXIT, READY_TICKS, SERVICES, SLEEP};
+use crate::services::{Call, ACQUIRE, EXIT, READY_TICKS, RECEIVE, SEND, SERVICES, SLEEP};
 
 /// The header of a list with three or four numbers on every line.
 pub fn header(width: usize) -> &'static [u8] {
@@ -48,7 +48,7 @@ pub const BAD_HEADERS: [&[u8]; 21] = [
     b"T,tn_task_exit,,,",
 ];
 
-const UNKNOWN_NAMES: [&str; 22] = [
+const UNKNOWN_NAMES: [&str; 26] = [
     "",
     " ",
     "tn_fmem_get",
@@ -59,7 +59,11 @@ const UNKNOWN_NAMES: [&str; 22] = [
     "tn_event_await",
     "tn_event_wait_pollin",
     "tn_mutex_lock",
-    "tn_queue_send",
+    "tn_queue_isend",
+    "tn_queue_ireceive_polling",
+    "tn_queue_reveive_polling",
+    "tn_queue_receive_pollin",
+    "tn_queue_sendd",
     "tn_start_system",
     "tn_sys_time_get",
     "tn_sem_acquir",
@@ -148,8 +152,10 @@ pub const LINE_DAMAGES: [(&str, Damage); 26] = [
         changed_number(rng, call, width, |rng, _| rng.pick(&NEARLY_THE_WORD).to_string())
     }),
     ("nearly the word for a timeout", |rng, _, width| {
-        let calls = [Call::of(SLEEP, 1, 0, 0), Call::of(ACQUIRE, 1, 2, 0), Call::wait(1, 2, 0, 5)];
-        let call = rng.pick(&calls[..width - 1]);
+        let [sleep, acquire] = [Call::of(SLEEP, 1, 0, 0), Call::of(ACQUIRE, 1, 2, 0)];
+        let [send, receive] = [Call::of(SEND, 1, 2, 3), Call::of(RECEIVE, 1, 2, 0)];
+        let calls = [sleep, acquire, send, receive, Call::wait(1, 2, 0, 5)];
+        let call = rng.pick(&calls[..width + 1]);
         with_field(&call, width, 2 + call.timeout()?, rng.pick(&NEARLY_THE_WORD))
     }),
     ("foreign byte", |rng, call, width| {

@@ -3,7 +3,7 @@
 
 use crate::gen::{Rng, World, LIMITS};
 use crate::kernel::Kernel;
-use crate::layout::{store, State, TASK_PLACES};
+use crate::layout::{store, State, ELEMENTS, QUEUE_PLACES, TASK_PLACES};
 use crate::services::Call;
 use crate::slots;
 
@@ -109,7 +109,39 @@ pub fn any_times(rng: &mut Rng, state: &State) -> Vec<Damage> {
     damages
 }
 
-/// A damage of a charge, of a time of entry, of any number, of one that is in use, or of a neighbour of one in use; the state is
+/// Each data queue with other capacities and numbers of elements near those that it has, its newest element and the place behind it
+/// otherwise, and each wait on one turned into a wait for the other side.
+pub fn stocks(state: &State) -> Vec<Damage> {
+    let mut damages = Vec::new();
+    let mut other = |slot: usize, value: u32| {
+        if slots::get(state, slot) != value {
+            damages.push(Damage { slot, value });
+        }
+    };
+    for queue in 1..QUEUE_PLACES {
+        let (capacity, taken) = (state.numbers.capacities[queue], state.numbers.taken[queue]);
+        for value in [0, 1, taken, taken + 1, taken + 2, 17, 18, 256 + capacity] {
+            other(slots::capacity_of(queue), value);
+        }
+        for value in [0, 1, taken.wrapping_sub(1), taken + 1, capacity.wrapping_sub(1), capacity, 256 + taken] {
+            other(slots::taken_of(queue), value);
+        }
+        let behind = taken as usize;
+        for place in [behind.wrapping_sub(1), behind, behind + 1, ELEMENTS - 1] {
+            for value in [0, 1, 1 << 31] {
+                if place < ELEMENTS {
+                    other(slots::element_of(queue, place), value);
+                }
+            }
+        }
+    }
+    for task in (1..TASK_PLACES).filter(|&task| state.tasks[task].wait.kind >= 4) {
+        other(slots::kind_of(task), 9 - u32::from(state.tasks[task].wait.kind));
+    }
+    damages
+}
+
+/// A damage of a charge, of a time of entry, of a data queue, of any number, of one that is in use, or of a neighbour of one in use; the state is
 /// sound before.
 pub fn damage(rng: &mut Rng, state: &State) -> Damage {
     if rng.percent(10) {
@@ -117,6 +149,9 @@ pub fn damage(rng: &mut Rng, state: &State) -> Damage {
     }
     if rng.percent(10) {
         return rng.pick(&entries(state));
+    }
+    if rng.percent(10) {
+        return rng.pick(&stocks(state));
     }
     let any = rng.below(slots::SLOTS);
     let used = (0..slots::SLOTS).map(|step| (any + step) % slots::SLOTS).find(|&slot| slots::get(state, slot) != 0);
@@ -136,7 +171,7 @@ pub fn damage_at(rng: &mut Rng, state: &State, slot: usize) -> Damage {
             0 => 0,
             1 => old.wrapping_add(1),
             2 => old.wrapping_sub(1),
-            3 => rng.from(1, 3),
+            3 => rng.from(1, 5),
             4 => rng.pick(&[4, 10, 11]),
             5 => rng.from(1, 30),
             6 => rng.pick(&LIMITS),

@@ -9,6 +9,8 @@ pub const TASKS: u32 = 24;
 pub const LEVELS: u32 = 30;
 pub const SEMAPHORES: u32 = 12;
 pub const FLAGS: u32 = 8;
+pub const QUEUES: u32 = 8;
+pub const LARGEST_CAPACITY: u32 = 16;
 pub const LARGEST_MAXIMUM: u32 = 65_535;
 pub const LARGEST_SLICE: u32 = 1_000;
 /// The timeout that never ends.
@@ -34,7 +36,8 @@ pub type Outcome = Result<i32, i32>;
 pub struct Answer {
     pub code: i32,
     pub running: u32,
-    /// The bits that a wait or poll of a flag got at once, or the ticks that `ready_ticks` gives, else 0.
+    /// The bits that a wait or poll of a flag got at once, the element that was received at once, or the ticks that `ready_ticks` gives;
+    /// else 0.
     pub value: u32,
 }
 
@@ -45,6 +48,7 @@ pub struct Kernel {
     pub levels: [Level; LEVELS as usize + 1],
     pub semaphores: [Semaphore; SEMAPHORES as usize + 1],
     pub flags: [Flag; FLAGS as usize + 1],
+    pub queues: [DataQueue; QUEUES as usize + 1],
     pub time: u32,
     filled: u32, // bit p: level p lists a task
     timed: u32,  // bit t: task t waits with a finite timeout
@@ -58,6 +62,7 @@ impl Kernel {
             levels: [Level { queue: Queue::EMPTY, slice: 0 }; LEVELS as usize + 1],
             semaphores: [Semaphore::NONE; SEMAPHORES as usize + 1],
             flags: [Flag::NONE; FLAGS as usize + 1],
+            queues: [DataQueue::NONE; QUEUES as usize + 1],
             time: 0,
             filled: 0,
             timed: 0,
@@ -92,6 +97,8 @@ impl Kernel {
             EVENT_WAIT => return self.event_wait(here, a, b, c, d),
             EVENT_POLLING | EVENT_IWAIT => return self.event_poll(here, a, b, c),
             READY_TICKS => return self.ready_ticks(here, a),
+            RECEIVE => return self.queue_receive(here, a, b),
+            RECEIVE_POLLING | IRECEIVE => return self.queue_receive_polling(here, a),
             _ => {}
         }
         let code = match service {
@@ -116,7 +123,11 @@ impl Kernel {
             EVENT_CREATE => self.event_create(here, a, b, c),
             EVENT_DELETE => self.event_delete(here, a),
             SET | ISET => self.event_set(here, a, b),
-            _ => self.event_clear(here, a, b), // CLEAR, ICLEAR
+            CLEAR | ICLEAR => self.event_clear(here, a, b),
+            QUEUE_CREATE => self.queue_create(here, a, b),
+            QUEUE_DELETE => self.queue_delete(here, a),
+            SEND => self.queue_send(here, a, b, c),
+            _ => self.queue_send_polling(here, a, b), // SEND_POLLING, ISEND_POLLING
         }?;
         Ok((code, 0))
     }
@@ -162,6 +173,8 @@ impl Kernel {
         match wait {
             Wait::Semaphore(s) => self.semaphores[s as usize].queue.join(t),
             Wait::Flag(f, _) => self.flags[f as usize].queue.join(t),
+            Wait::Send(q, _) => self.queues[q as usize].senders.join(t),
+            Wait::Receive(q) => self.queues[q as usize].receivers.join(t),
             Wait::Nothing | Wait::Sleep => {}
         }
         let task = &mut self.tasks[t];
@@ -180,6 +193,8 @@ impl Kernel {
         match task.wait {
             Wait::Semaphore(s) => self.semaphores[s as usize].queue.leave(t),
             Wait::Flag(f, _) => self.flags[f as usize].queue.leave(t),
+            Wait::Send(q, _) => self.queues[q as usize].senders.leave(t),
+            Wait::Receive(q) => self.queues[q as usize].receivers.leave(t),
             Wait::Nothing | Wait::Sleep => {}
         }
         task.wait = Wait::Nothing;

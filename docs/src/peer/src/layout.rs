@@ -1,18 +1,20 @@
-//! The byte layout of the library's State, field by field, and the way to it and back from the peer's own state.
-//! `call` is the library's by-value call in the peer's terms: the soundness test first, then the call on the peer's state.
+//! The byte layout of the library's State, field by field.
+//! The way to it and back from the peer's own state is in convert.rs.
 
-use crate::kernel::{self, Asked, Kernel, SEMAPHORES, UNSOUND};
-use crate::queue::{self, PLACES};
-use crate::services::Call;
-use crate::sound::is_sound;
+pub use crate::convert::{call, load, store};
+use crate::kernel::{FLAGS, LARGEST_CAPACITY, SEMAPHORES};
+use crate::queue::PLACES;
 use std::mem::{offset_of, size_of};
 
 pub const TASK_PLACES: usize = 25;
 pub const LEVEL_PLACES: usize = 31;
 pub const SEMAPHORE_PLACES: usize = 13;
 pub const FLAG_PLACES: usize = 9;
-/// The rows of those who wait: none, those of the 12 semaphores, those of the 8 flags.
-pub const WAIT_ROWS: usize = 21;
+pub const QUEUE_PLACES: usize = 9;
+/// The places for the elements of one data queue.
+pub const ELEMENTS: usize = LARGEST_CAPACITY as usize;
+/// The rows of those who wait: none, those of the 12 semaphores, those of the 8 flags, those of the 8 data queues.
+pub const WAIT_ROWS: usize = 29;
 
 #[repr(C)]
 #[derive(Clone, Copy, PartialEq, Eq, Debug)]
@@ -58,6 +60,12 @@ pub struct Numbers {
     pub attributes: [u32; FLAG_PLACES],
     pub bits: [u32; FLAG_PLACES],
     pub time: u32,
+    /// The capacity plus 1; 0: not created.
+    pub capacities: [u32; QUEUE_PLACES],
+    /// How many elements are stored.
+    pub taken: [u32; QUEUE_PLACES],
+    /// The oldest first.
+    pub elements: [[u32; ELEMENTS]; QUEUE_PLACES],
 }
 
 #[repr(C)]
@@ -70,9 +78,9 @@ pub struct State {
 }
 
 const _: () = assert!(size_of::<Task>() == 32 && offset_of!(Task, wait) == 8 && offset_of!(Task, handed) == 20);
-const _: () = assert!(offset_of!(Task, charge) == 24 && offset_of!(Task, entered) == 28 && size_of::<Numbers>() == 304);
-const _: () = assert!(size_of::<State>() == 2352 && offset_of!(State, numbers) == 2048);
-const _: () = assert!(size_of::<Reply>() == 2364 && offset_of!(Reply, state) == 12);
+const _: () = assert!(offset_of!(Task, charge) == 24 && offset_of!(Task, entered) == 28 && size_of::<Numbers>() == 952);
+const _: () = assert!(size_of::<State>() == 3192 && offset_of!(State, numbers) == 2240);
+const _: () = assert!(size_of::<Reply>() == 3204 && offset_of!(Reply, state) == 12);
 
 #[repr(C)]
 #[derive(Clone, Copy, PartialEq, Eq, Debug)]
@@ -120,6 +128,9 @@ impl State {
             attributes: [0; FLAG_PLACES],
             bits: [0; FLAG_PLACES],
             time: 0,
+            capacities: [0; QUEUE_PLACES],
+            taken: [0; QUEUE_PLACES],
+            elements: [[0; ELEMENTS]; QUEUE_PLACES],
         },
     };
 
@@ -136,137 +147,9 @@ impl State {
     pub fn flag_waiters(&self, flag: usize) -> &[u8] {
         self.waiters(flag + SEMAPHORES as usize)
     }
-}
 
-const NOTHING_ASKED: Asked = Asked { pattern: 0, all: false };
-
-/// The peer's state as the library writes it.
-pub fn store(kernel: &Kernel) -> State {
-    let mut state = State::FRESH;
-    for (to, from) in state.tasks.iter_mut().zip(&kernel.tasks) {
-        *to = Task {
-            base: from.base,
-            priority: from.priority,
-            active: from.active.into(),
-            suspended: from.suspended.into(),
-            wakeups: from.wakeups,
-            activations: from.activations,
-            code: from.wait_code.unsigned_abs(),
-            spare: 0,
-            wait: stored_wait(from),
-            handed: from.handed,
-            charge: from.charge.into(),
-            entered: from.entered,
-        };
-    }
-    let numbers = &mut state.numbers;
-    for (p, level) in kernel.levels.iter().enumerate() {
-        state.levels[p] = stored_queue(&level.queue);
-        numbers.slices[p] = level.slice.into();
-    }
-    for (s, semaphore) in kernel.semaphores.iter().enumerate() {
-        state.waits[s] = stored_queue(&semaphore.queue);
-        numbers.counts[s] = semaphore.count.into();
-        numbers.maxima[s] = semaphore.maximum.into();
-    }
-    for (f, flag) in kernel.flags.iter().enumerate().skip(1) {
-        state.waits[f + SEMAPHORES as usize] = stored_queue(&flag.queue);
-        if flag.created {
-            numbers.attributes[f] = 1 + u32::from(flag.single) + 2 * u32::from(flag.clr);
-        }
-        numbers.bits[f] = flag.bits;
-    }
-    numbers.time = kernel.time;
-    state
-}
-
-fn stored_wait(task: &kernel::Task) -> Wait {
-    let (kind, object, asked) = match task.wait {
-        kernel::Wait::Nothing => (0, 0, NOTHING_ASKED),
-        kernel::Wait::Sleep => (1, 0, NOTHING_ASKED),
-        kernel::Wait::Semaphore(s) => (2, s, NOTHING_ASKED),
-        kernel::Wait::Flag(f, asked) => (3, f, asked),
-    };
-    Wait { kind, object, mode: asked.all.into(), spare: 0, remaining: task.remaining, pattern: asked.pattern }
-}
-
-fn stored_queue(queue: &queue::Queue) -> Queue {
-    let mut stored = Queue::EMPTY;
-    let tasks = queue.as_slice();
-    stored.places[..tasks.len()].copy_from_slice(tasks);
-    stored
-}
-
-/// The peer's state from the library's; none if it is unsound.
-pub fn load(state: &State) -> Option<Kernel> {
-    if !is_sound(state) {
-        return None;
-    }
-    let mut kernel = Kernel::fresh();
-    for (to, from) in kernel.tasks.iter_mut().zip(&state.tasks) {
-        *to = kernel::Task {
-            base: from.base,
-            priority: from.priority,
-            active: from.active == 1,
-            suspended: from.suspended == 1,
-            wait: loaded_wait(&from.wait),
-            wakeups: from.wakeups,
-            activations: from.activations,
-            wait_code: -(from.code as i8),
-            remaining: from.wait.remaining,
-            handed: from.handed,
-            charge: short(from.charge),
-            entered: from.entered,
-        };
-    }
-    let numbers = &state.numbers;
-    for (p, to) in kernel.levels.iter_mut().enumerate() {
-        *to = kernel::Level { queue: loaded_queue(state.level(p)), slice: short(numbers.slices[p]) };
-    }
-    for (s, to) in kernel.semaphores.iter_mut().enumerate() {
-        let (count, maximum) = (short(numbers.counts[s]), short(numbers.maxima[s]));
-        *to = kernel::Semaphore { queue: loaded_queue(state.waiters(s)), count, maximum };
-    }
-    for (f, to) in kernel.flags.iter_mut().enumerate().skip(1) {
-        let created = numbers.attributes[f] != 0;
-        let attributes = numbers.attributes[f].saturating_sub(1);
-        let (single, clr) = (attributes & 1 != 0, attributes & 2 != 0);
-        *to = kernel::Flag { queue: loaded_queue(state.flag_waiters(f)), created, single, clr, bits: numbers.bits[f] };
-    }
-    kernel.time = numbers.time;
-    kernel.index();
-    Some(kernel)
-}
-
-fn loaded_wait(wait: &Wait) -> kernel::Wait {
-    match wait.kind {
-        0 => kernel::Wait::Nothing,
-        1 => kernel::Wait::Sleep,
-        2 => kernel::Wait::Semaphore(wait.object),
-        _ => kernel::Wait::Flag(wait.object, Asked { pattern: wait.pattern, all: wait.mode == 1 }),
-    }
-}
-
-fn loaded_queue(row: &[u8]) -> queue::Queue {
-    let mut queue = queue::Queue::EMPTY;
-    for &task in row.iter().take_while(|&&task| task != 0) {
-        queue.join(task as usize);
-    }
-    queue
-}
-
-/// A charge, or a number of a level or a semaphore, which the peer keeps in 16 bits.
-fn short(number: u32) -> u16 {
-    u16::try_from(number).expect("a sound state has no larger one")
-}
-
-/// One call on a state by value: an unsound one comes back as it came, with code -12 and no task running.
-pub fn call(state: &State, call: Call) -> Reply {
-    match load(state) {
-        None => Reply { code: UNSOUND, running: 0, value: 0, state: *state },
-        Some(mut kernel) => {
-            let answer = kernel.call(&call);
-            Reply { code: answer.code, running: answer.running, value: answer.value, state: store(&kernel) }
-        }
+    /// Those who wait on a data queue, from 1: to send or to receive.
+    pub fn queue_waiters(&self, queue: usize) -> &[u8] {
+        self.flag_waiters(queue + FLAGS as usize)
     }
 }

@@ -117,6 +117,14 @@ fn read_name(name: &[u8]) -> Option<u32> {
         b"tn_event_wait" => EVENT_WAIT,
         b"tn_event_wait_polling" => EVENT_POLLING,
         b"tn_event_iwait" => EVENT_IWAIT,
+        b"tn_queue_create" => QUEUE_CREATE,
+        b"tn_queue_delete" => QUEUE_DELETE,
+        b"tn_queue_send" => SEND,
+        b"tn_queue_send_polling" => SEND_POLLING,
+        b"tn_queue_isend_polling" => ISEND_POLLING,
+        b"tn_queue_receive" => RECEIVE,
+        b"tn_queue_receive_polling" => RECEIVE_POLLING,
+        b"tn_queue_ireceive" => IRECEIVE,
         _ => return None,
     })
 }

@@ -1,7 +1,8 @@
-//! What the kernel keeps of each task, level, semaphore and flag, and what a task may wait for.
+//! What the kernel keeps of each task, level, semaphore, flag and data queue, and what a task may wait for.
 //! A record knows itself alone; the kernel keeps the queues in step with the records.
 
 use crate::queue::Queue;
+use std::collections::VecDeque;
 
 #[derive(Clone, Copy, PartialEq, Eq, Debug)]
 pub enum Wait {
@@ -10,6 +11,10 @@ pub enum Wait {
     Semaphore(u8),
     /// The flag, and what is asked of it.
     Flag(u8, Asked),
+    /// The data queue, and the element that is to go in.
+    Send(u8, u32),
+    /// The data queue from which an element is to come.
+    Receive(u8),
 }
 
 /// The bits that a wait or poll asks for: all of them, or any.
@@ -42,7 +47,7 @@ pub struct Task {
     pub activations: u8,
     pub wait_code: i8,
     pub remaining: u32,
-    /// The bits that the last wait handed over.
+    /// The bits, or the element, that the last wait handed over.
     pub handed: u32,
     /// The ticks of its slice that it has used; only the first of a level has any.
     pub charge: u16,
@@ -110,4 +115,29 @@ pub struct Flag {
 
 impl Flag {
     pub const NONE: Flag = Flag { queue: Queue::EMPTY, created: false, single: false, clr: false, bits: 0 };
+}
+
+/// A data queue has two queues of tasks, as in document 000: those whose element found no room, and those who found no element.
+#[derive(Clone, PartialEq, Eq, Debug)]
+pub struct DataQueue {
+    pub created: bool,
+    pub capacity: usize,
+    /// The elements inside, the oldest first.
+    pub stored: VecDeque<u32>,
+    pub senders: Queue,
+    pub receivers: Queue,
+}
+
+impl DataQueue {
+    pub const NONE: DataQueue = DataQueue {
+        created: false,
+        capacity: 0,
+        stored: VecDeque::new(),
+        senders: Queue::EMPTY,
+        receivers: Queue::EMPTY,
+    };
+
+    pub fn has_room(&self) -> bool {
+        self.stored.len() < self.capacity
+    }
 }

@@ -1,5 +1,5 @@
-//! The 33 services by number: those of the base, those of event flags, and one that no list holds. Each has a name, so many numbers,
-//! a context, and perhaps a timeout. A call is one service with its context and numbers, and is shown as the line of a list that asks
+//! The 41 services by number: those of the base, those of event flags, one that no list holds, and those of data queues. Each has a name,
+//! so many numbers, a context, and perhaps a timeout. A call is one service with its context and numbers, and is shown as the line of a list that asks
 //! for it, or would.
 
 use std::fmt;
@@ -41,11 +41,23 @@ pub const ICLEAR: u32 = 29;
 pub const EVENT_WAIT: u32 = 30;
 pub const EVENT_POLLING: u32 = 31;
 pub const EVENT_IWAIT: u32 = 32;
-/// The last that document 000 names, and so the last that a list holds.
-pub const LAST_IN_LISTS: u32 = EVENT_IWAIT;
+/// The one that document 000 does not name, so that no list holds it.
 pub const READY_TICKS: u32 = 33;
+pub const QUEUE_CREATE: u32 = 34;
+pub const QUEUE_DELETE: u32 = 35;
+pub const SEND: u32 = 36;
+pub const SEND_POLLING: u32 = 37;
+pub const ISEND_POLLING: u32 = 38;
+pub const RECEIVE: u32 = 39;
+pub const RECEIVE_POLLING: u32 = 40;
+pub const IRECEIVE: u32 = 41;
 /// The last of them.
-pub const LAST: u32 = READY_TICKS;
+pub const LAST: u32 = IRECEIVE;
+
+/// Those that a list may hold.
+pub fn in_lists() -> impl Iterator<Item = u32> {
+    (CREATE..=LAST).filter(|&service| service != READY_TICKS)
+}
 
 pub struct Service {
     pub name: &'static str,
@@ -100,6 +112,14 @@ pub const SERVICES: [Service; LAST as usize + 1] = [
     service("tn_event_wait_polling", 3, T),
     service("tn_event_iwait", 3, I),
     service("ready_ticks", 1, T),
+    service("tn_queue_create", 2, T),
+    service("tn_queue_delete", 1, T),
+    waiting("tn_queue_send", 3, T),
+    service("tn_queue_send_polling", 2, T),
+    service("tn_queue_isend_polling", 2, I),
+    waiting("tn_queue_receive", 2, T),
+    service("tn_queue_receive_polling", 1, T),
+    service("tn_queue_ireceive", 1, I),
 ];
 
 #[derive(Clone, Copy, PartialEq, Eq, Debug)]

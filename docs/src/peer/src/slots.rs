@@ -1,7 +1,9 @@
 //! Every number in the library's State by one running index, to damage any of them and to name the first that differs.
 //! No byte of it is without a number.
 
-use crate::layout::{Queue, State, FLAG_PLACES, LEVEL_PLACES, SEMAPHORE_PLACES, TASK_PLACES, WAIT_ROWS};
+use crate::layout::{
+    Queue, State, ELEMENTS, FLAG_PLACES, LEVEL_PLACES, QUEUE_PLACES, SEMAPHORE_PLACES, TASK_PLACES, WAIT_ROWS,
+};
 use crate::queue::PLACES;
 
 #[rustfmt::skip]
@@ -18,13 +20,27 @@ const MAXIMA_AT: usize = COUNTS_AT + SEMAPHORE_PLACES;
 const ATTRIBUTES_AT: usize = MAXIMA_AT + SEMAPHORE_PLACES;
 const BITS_AT: usize = ATTRIBUTES_AT + FLAG_PLACES;
 const TIME_AT: usize = BITS_AT + FLAG_PLACES;
+const CAPACITIES_AT: usize = TIME_AT + 1;
+const TAKEN_AT: usize = CAPACITIES_AT + QUEUE_PLACES;
+const ELEMENTS_AT: usize = TAKEN_AT + QUEUE_PLACES;
 
 /// Where the tables begin, which follow the tasks.
-pub const TABLES: [usize; 7] = [LEVELS_AT, WAITS_AT, SLICES_AT, COUNTS_AT, MAXIMA_AT, ATTRIBUTES_AT, BITS_AT];
+pub const TABLES: [usize; 10] = [
+    LEVELS_AT,
+    WAITS_AT,
+    SLICES_AT,
+    COUNTS_AT,
+    MAXIMA_AT,
+    ATTRIBUTES_AT,
+    BITS_AT,
+    CAPACITIES_AT,
+    TAKEN_AT,
+    ELEMENTS_AT,
+];
 
 /// How many numbers a State holds.
-pub const SLOTS: usize = TIME_AT + 1;
-/// The system time, which is the last.
+pub const SLOTS: usize = ELEMENTS_AT + QUEUE_PLACES * ELEMENTS;
+/// The system time.
 pub const TIME: usize = TIME_AT;
 /// Those that are places of queues.
 pub const ROWS: std::ops::Range<usize> = LEVELS_AT..SLICES_AT;
@@ -37,6 +53,26 @@ pub fn charge_of(task: usize) -> usize {
 /// The time at which a task entered its level.
 pub fn entered_of(task: usize) -> usize {
     task * TASK_FIELDS.len() + TASK_FIELDS.len() - 1
+}
+
+/// The capacity of a data queue, plus 1.
+pub fn capacity_of(queue: usize) -> usize {
+    CAPACITIES_AT + queue
+}
+
+/// How many elements a data queue has stored.
+pub fn taken_of(queue: usize) -> usize {
+    TAKEN_AT + queue
+}
+
+/// A place for an element of a data queue.
+pub fn element_of(queue: usize, place: usize) -> usize {
+    ELEMENTS_AT + queue * ELEMENTS + place
+}
+
+/// The kind of a task's wait.
+pub fn kind_of(task: usize) -> usize {
+    task * TASK_FIELDS.len() + 8
 }
 
 /// One number of a State, at its own width.
@@ -77,7 +113,13 @@ fn place(state: &mut State, slot: usize) -> Place<'_> {
         MAXIMA_AT..ATTRIBUTES_AT => Place::Word(&mut numbers.maxima[slot - MAXIMA_AT]),
         ATTRIBUTES_AT..BITS_AT => Place::Word(&mut numbers.attributes[slot - ATTRIBUTES_AT]),
         BITS_AT..TIME_AT => Place::Word(&mut numbers.bits[slot - BITS_AT]),
-        _ => Place::Word(&mut numbers.time),
+        TIME_AT => Place::Word(&mut numbers.time),
+        CAPACITIES_AT..TAKEN_AT => Place::Word(&mut numbers.capacities[slot - CAPACITIES_AT]),
+        TAKEN_AT..ELEMENTS_AT => Place::Word(&mut numbers.taken[slot - TAKEN_AT]),
+        _ => {
+            let at = slot - ELEMENTS_AT;
+            Place::Word(&mut numbers.elements[at / ELEMENTS][at % ELEMENTS])
+        }
     }
 }
 
@@ -119,7 +161,10 @@ pub fn name(slot: usize) -> String {
         MAXIMA_AT..ATTRIBUTES_AT => format!("maxima[{}]", slot - MAXIMA_AT),
         ATTRIBUTES_AT..BITS_AT => format!("attributes[{}]", slot - ATTRIBUTES_AT),
         BITS_AT..TIME_AT => format!("bits[{}]", slot - BITS_AT),
-        _ => "time".to_string(),
+        TIME_AT => "time".to_string(),
+        CAPACITIES_AT..TAKEN_AT => format!("capacities[{}]", slot - CAPACITIES_AT),
+        TAKEN_AT..ELEMENTS_AT => format!("taken[{}]", slot - TAKEN_AT),
+        _ => format!("elements[{}][{}]", (slot - ELEMENTS_AT) / ELEMENTS, (slot - ELEMENTS_AT) % ELEMENTS),
     }
 }
 

@@ -1,7 +1,9 @@
-//! The test of 'A sound state' on the library's layout, sentence by sentence, with what requests P1, P3 and P10 make of it.
+//! The test of 'A sound state' on the library's layout, sentence by sentence, with what requests P1, P3, P10 and P11 make of it.
 //! It holds on any bytes: nothing is indexed by a number that was not tested before.
 
-use crate::kernel::{Asked, FLAGS, LARGEST_MAXIMUM, LARGEST_SLICE, LEVELS, SEMAPHORES, TASKS};
+use crate::kernel::{
+    Asked, FLAGS, LARGEST_CAPACITY, LARGEST_MAXIMUM, LARGEST_SLICE, LEVELS, QUEUES, SEMAPHORES, TASKS,
+};
 use crate::layout::{State, Task, Wait};
 
 pub fn is_sound(s: &State) -> bool {
@@ -10,9 +12,10 @@ pub fn is_sound(s: &State) -> bool {
         && (1..=LEVELS as usize).all(|p| level_is_sound(s, p))
         && (1..=SEMAPHORES as usize).all(|k| semaphore_is_sound(s, k))
         && (1..=FLAGS as usize).all(|f| flag_is_sound(s, f))
+        && (1..=QUEUES as usize).all(|q| queue_is_sound(s, q))
 }
 
-/// Tasks, levels, semaphores and flags begin at 1; place 0 of every table is all zeros.
+/// Tasks, levels, semaphores, flags and data queues begin at 1; place 0 of every table is all zeros.
 fn nothing_at_place_zero(s: &State) -> bool {
     s.tasks[0] == Task::NONE
         && s.level(0).iter().all(|&t| t == 0)
@@ -22,6 +25,9 @@ fn nothing_at_place_zero(s: &State) -> bool {
         && s.numbers.maxima[0] == 0
         && s.numbers.attributes[0] == 0
         && s.numbers.bits[0] == 0
+        && s.numbers.capacities[0] == 0
+        && s.numbers.taken[0] == 0
+        && s.numbers.elements[0].iter().all(|&e| e == 0)
 }
 
 fn task_is_sound(s: &State, task: &Task) -> bool {
@@ -50,21 +56,24 @@ fn numbers_in_range(task: &Task) -> bool {
         && task.wait.spare == 0
 }
 
-/// A task waits for nothing, a sleep, a created semaphore or a created flag.
+/// A task waits for nothing, a sleep, a created semaphore, a created flag or, to send or to receive, a created data queue.
 fn waits_for_something_there(s: &State, wait: &Wait) -> bool {
     match wait.kind {
         0 | 1 => wait.object == 0,
         2 => (1..=SEMAPHORES as u8).contains(&wait.object) && s.numbers.maxima[wait.object as usize] != 0,
         3 => (1..=FLAGS as u8).contains(&wait.object) && s.numbers.attributes[wait.object as usize] != 0,
+        4 | 5 => (1..=QUEUES as u8).contains(&wait.object) && s.numbers.capacities[wait.object as usize] != 0,
         _ => false,
     }
 }
 
-/// A wait has remaining ticks of 1 or more, else there are none; what a flag wait asks is in range, and 0 outside it.
+/// A wait has remaining ticks of 1 or more, else there are none; what a flag wait asks is in range, and 0 outside it. Who waits to send
+/// has any element at all.
 fn asks_what_it_may(wait: &Wait) -> bool {
     (wait.kind != 0) == (wait.remaining >= 1)
         && match wait.kind {
             3 => wait.pattern != 0 && wait.mode <= 1,
+            4 => wait.mode == 0,
             _ => wait.pattern == 0 && wait.mode == 0,
         }
 }
@@ -124,6 +133,27 @@ fn flag_is_sound(s: &State, f: usize) -> bool {
             let asked = Asked { pattern: task.wait.pattern, all: task.wait.mode == 1 };
             !asked.is_met_by(s.numbers.bits[f])
         })
+}
+
+/// What is stored is within the capacity, and the places past it hold 0; one that is not created has nothing, and nobody waits on it.
+/// The tasks waiting on it are listed. No receiver waits beside a stored element or a waiting sender, no sender beside free room.
+fn queue_is_sound(s: &State, q: usize) -> bool {
+    let waiters = s.queue_waiters(q);
+    let stored = s.numbers.taken[q];
+    let waits_here = |task: &Task, kind: u8| task.wait.kind == kind && usize::from(task.wait.object) == q;
+    let anyone_waits = |kind: u8| s.tasks.iter().any(|task| waits_here(task, kind));
+    let (senders, receivers) = (anyone_waits(4), anyone_waits(5));
+    let numbers = match s.numbers.capacities[q].checked_sub(1) {
+        None => stored == 0 && waiters[0] == 0,
+        Some(capacity) => {
+            let room = stored < capacity;
+            capacity <= LARGEST_CAPACITY && stored <= capacity && !(senders && room)
+        }
+    };
+    numbers
+        && s.numbers.elements[q].iter().skip(stored as usize).all(|&e| e == 0)
+        && !(receivers && (stored > 0 || senders))
+        && lists_exactly(waiters, s, |task| waits_here(task, 4) || waits_here(task, 5))
 }
 
 /// The row lists exactly the wanted tasks, once each, and its places past the end hold 0.

@@ -69,14 +69,15 @@ fn a_long_run_of_ticks() {
     let mut calls = vec![Call::of(SEM_CREATE, 1, 0, 1), Call::of(CREATE, 2, 9, 1), Call::of(SLEEP, 65_535, 0, 0)];
     calls.extend([Call::of(CREATE, 1, 9, 1), Call::of(ACQUIRE, 1, 65_535, 0)]);
     calls.extend([Call::of(EVENT_CREATE, 8, 0, 1), Call::of(CREATE, 3, 9, 1), Call::wait(8, 6, 0, 65_535)]);
+    calls.extend([Call::of(QUEUE_CREATE, 8, 0, 0), Call::of(CREATE, 4, 9, 1), Call::of(SEND, 8, 77, 65_535)]);
     calls.extend([Call::of(TICK, 0, 0, 0)].repeat(65_537));
-    calls.extend((1..=3).map(|task| Call::of(READY_TICKS, task, 0, 0)));
+    calls.extend((1..=4).map(|task| Call::of(READY_TICKS, task, 0, 0)));
     assert_eq!(run_differs(u32::MAX - 30_000, &calls), None);
-    let kernel = after(0, &calls[..calls.len() - 5]);
-    assert_eq!(kernel.levels[9].queue.as_slice(), [1, 2, 3]);
+    let kernel = after(0, &calls[..calls.len() - 6]);
+    assert_eq!(kernel.levels[9].queue.as_slice(), [1, 2, 3, 4]);
 }
 
-/// Every number of a state in turn: 69,960 states with one of them damaged.
+/// Every number of a state in turn: 84,120 states with one of them damaged.
 #[test]
 fn every_number_damaged() {
     let mut rng = Rng::new(11);
@@ -89,7 +90,7 @@ fn every_number_damaged() {
     }
 }
 
-/// Every bit of every number turned over, those above what its range needs too: 282,240 states.
+/// Every bit of every number turned over, those above what its range needs too: 383,040 states.
 #[test]
 fn every_bit_turned_over() {
     let mut world = World::new(16);
@@ -104,7 +105,7 @@ fn every_bit_turned_over() {
             }
         }
     }
-    assert_eq!(states, 282_240);
+    assert_eq!(states, 383_040);
 }
 
 /// What means something above the smallest numbers, or would in 8 or 16 bits: 256 to 260 are 0 to 4 in 8.
@@ -169,7 +170,7 @@ fn any_numbers_at_all() {
 fn unknown_contexts_and_services() {
     let mut rng = Rng::new(14);
     let contexts = [T, I, 2, 3, 84, 255, 256, 257, 1 << 31, u32::MAX];
-    let services = [0, 1, 16, 24, 32, 33, 34, 46, 255, 256, 257, 272, 65_537, 1 << 31, u32::MAX];
+    let services = [0, 1, 16, 24, 32, 33, 34, 41, 42, 46, 255, 256, 257, 272, 65_537, 1 << 31, u32::MAX];
     for seed in 0..50 {
         let (_, state) = reached(seed);
         let running = layout::call(&state, Call { context: 2, service: 0, a: 0, b: 0, c: 0, d: 0 }).running;

@@ -54,9 +54,17 @@ const CODES: [(u32, &[i32]); LAST as usize] = [
     (EVENT_POLLING, &[0, -2, -4, -5, -8, -9]),
     (EVENT_IWAIT, &[0, -2, -4, -5, -8, -9]),
     (READY_TICKS, &[0, -2, -5, -9]),
+    (QUEUE_CREATE, &[0, -2, -5]),
+    (QUEUE_DELETE, &[0, -2, -5, -9]),
+    (SEND, &[0, 1, -2, -5, -9]),
+    (SEND_POLLING, &[0, -2, -4, -5, -9]),
+    (ISEND_POLLING, &[0, -2, -4, -5, -9]),
+    (RECEIVE, &[0, 1, -2, -5, -9]),
+    (RECEIVE_POLLING, &[0, -2, -4, -5, -9]),
+    (IRECEIVE, &[0, -2, -4, -5, -9]),
 ];
 
-const MEETINGS: usize = 77;
+const MEETINGS: usize = 118;
 
 #[test]
 fn random_calls_reach_every_code_and_meeting() {
@@ -226,8 +234,9 @@ fn readable_lists_have_the_word_in_every_timeout() {
         }
         println!("{what}: {met:#?}");
         let places: Vec<(&str, usize)> = met.keys().map(|(service, fields)| (service.as_str(), *fields)).collect();
-        let [wait, acquire, sleep] = ["tn_event_wait", "tn_sem_acquire", "tn_task_sleep"];
-        assert_eq!(places, [(wait, 6), (acquire, 5), (acquire, 6), (sleep, 5), (sleep, 6)]);
+        let both = ["tn_queue_receive", "tn_queue_send", "tn_sem_acquire", "tn_task_sleep"].into_iter();
+        let both = both.flat_map(|service| [5, 6].map(|fields| (service, fields)));
+        assert_eq!(places, [("tn_event_wait", 6)].into_iter().chain(both).collect::<Vec<_>>());
         let least = if endless { 100 } else { 10 };
         assert!(met.values().all(|&times| times >= least), "{what}");
     }

@@ -117,7 +117,7 @@ fn numbers_at_their_limits_and_the_wrong_context_are_readable() {
 
 #[test]
 fn every_service_is_read_by_its_name() {
-    for service in CREATE..=LAST_IN_LISTS {
+    for service in in_lists() {
         for context in [T, I] {
             let call = Call { context, service, a: 0, b: 0, c: 0, d: 0 };
             let wide = format!("ctx,service,a,b,c,d\n{}", call.line(4));
@@ -165,7 +165,7 @@ fn every_damage_is_answered_with_its_line() {
 #[test]
 fn every_damage_on_every_service_in_every_place() {
     let mut rng = Rng::new(2);
-    for (service, width) in (CREATE..=LAST_IN_LISTS).flat_map(|service| [(service, 3), (service, 4)]) {
+    for (service, width) in in_lists().flat_map(|service| [(service, 3), (service, 4)]) {
         let good = Call { d: 4, ..Call::of(service, 1, 2, 3) };
         if good.numbers() > width {
             continue;

@@ -1,7 +1,7 @@
-//! docs/EXAMPLES.md's columns of the level's tasks, the charge of the first and the times of entry, held to the kernel after each line of
-//! the list. The rows and answers of its tables are held to the lists by tests/examples.sh.
+//! docs/EXAMPLES.md's columns of the level's tasks, the charge of the first, the times of entry and what is in a data queue, held to the
+//! kernel after each line of the list. The rows and answers of its tables are held to the lists by tests/examples.sh.
 
-use peer::kernel::Kernel;
+use peer::kernel::{Kernel, Wait};
 use peer::lists::read_list;
 use peer::services::{Call, READY_TICKS};
 use std::fs;
@@ -23,8 +23,12 @@ fn rows(start: &str) -> Vec<String> {
     section.lines().filter(|line| line.contains("| `T,") || line.contains("| `I,")).map(str::to_string).collect()
 }
 
+fn calls_of(list: &str) -> Vec<Call> {
+    read_list(&fs::read(format!("{TOP}/examples/{list}.csv")).expect("the list")).expect("a readable list")
+}
+
 fn calls() -> Vec<Call> {
-    read_list(&fs::read(format!("{TOP}/examples/round-robin.csv")).expect("the list")).expect("a readable list")
+    calls_of("round-robin")
 }
 
 #[test]
@@ -69,4 +73,33 @@ fn the_times_of_entry() {
     for row in rows {
         assert!(computed.iter().any(|line| row.starts_with(line)), "{row}");
     }
+}
+
+/// Data queue 1 as the page writes it: its elements, the oldest first, and behind a stroke who waits there, and for what.
+fn queue_column(kernel: &Kernel) -> String {
+    let queue = &kernel.queues[1];
+    let stored: Vec<String> = queue.stored.iter().map(u32::to_string).collect();
+    let stored = if stored.is_empty() { "none".to_string() } else { stored.join(" ") };
+    let waits = |t: &u8| match kernel.tasks[usize::from(*t)].wait {
+        Wait::Send(_, element) => format!(" / {t} sends {element}"),
+        _ => format!(" / {t} receives"),
+    };
+    let waiting = queue.senders.as_slice().iter().chain(queue.receivers.as_slice()).map(waits);
+    stored + &waiting.collect::<String>()
+}
+
+#[test]
+fn the_list_of_messages() {
+    let rows = rows("Temperatures by message:");
+    let shown: Vec<&str> = rows.iter().map(|line| line.split(" | ").nth(3).expect("the fourth column")).collect();
+    let mut kernel = Kernel::fresh();
+    let computed: Vec<String> = calls_of("reading-and-relay")
+        .iter()
+        .map(|call| {
+            kernel.call(call);
+            queue_column(&kernel)
+        })
+        .collect();
+    assert!(computed.len() > 20);
+    assert_eq!(shown, computed);
 }

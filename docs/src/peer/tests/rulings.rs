@@ -94,10 +94,13 @@ fn ruling_1_order_of_tests() {
 
 #[test]
 fn ruling_2_what_start_up_code_may_not_do() {
-    let mut bench = made(&[(SEM_CREATE, 1, 1, 1), (CREATE, 1, 5, 1), (SLEEP, 9, 0, 0)]);
-    for (service, a, b) in [(EXIT, 0, 0), (SLEEP, 1, 0), (ACQUIRE, 1, 1)] {
+    let mut bench =
+        made(&[(SEM_CREATE, 1, 1, 1), (QUEUE_CREATE, 1, 1, 0), (CREATE, 1, 5, 1), (SEND, 1, 7, 1), (SLEEP, 9, 0, 0)]);
+    for (service, a, b) in [(EXIT, 0, 0), (SLEEP, 1, 0), (ACQUIRE, 1, 1), (RECEIVE, 1, 1)] {
         assert_eq!(bench.call(service, a, b, 0), (-2, 0));
     }
+    assert_eq!(bench.call1(RECEIVE_POLLING, 1), (0, 0));
+    assert_eq!(bench.call(SEND, 1, 8, 1), (-2, 0)); // though there is room now
     for (service, a, b) in [(SUSPEND, 1, 0), (CHANGE_PRIORITY, 1, 7), (RESUME, 1, 0), (TERMINATE, 1, 0), (DELETE, 1, 0)]
     {
         assert_eq!(bench.call(service, a, b, 0), (0, 0));
@@ -106,11 +109,11 @@ fn ruling_2_what_start_up_code_may_not_do() {
 
 #[test]
 fn every_service_minds_its_context() {
-    let mut bench = made(&[(SEM_CREATE, 1, 1, 2), (EVENT_CREATE, 1, 0, 0), (CREATE, 1, 5, 1)]);
+    let mut bench = made(&[(SEM_CREATE, 1, 1, 2), (EVENT_CREATE, 1, 0, 0), (QUEUE_CREATE, 1, 2, 0), (CREATE, 1, 5, 1)]);
     for service in CREATE..=LAST {
         let (a, b, c) = match service {
             CREATE => (2, 5, 1),
-            SEM_CREATE | EVENT_CREATE => (2, 0, 1),
+            SEM_CREATE | EVENT_CREATE | QUEUE_CREATE => (2, 0, 1),
             _ => (1, 1, 1),
         };
         assert_eq!(bench.wrongly(service, a, b, c), (-2, 1), "{}", Call::of(service, a, b, c));

@@ -236,8 +236,8 @@ fn dormant_tasks_and_tasks_not_created() {
 
 #[test]
 fn place_0_of_every_table_is_all_zeros() {
-    let queue_ends = [TABLES[0] + 23, TABLES[1] + 23];
-    for slot in (0..TASK_FIELDS.len()).chain(TABLES).chain(queue_ends) {
+    let row_ends = [TABLES[0] + 23, TABLES[1] + 23, TABLES[9] + 15];
+    for slot in (0..TASK_FIELDS.len()).chain(TABLES).chain(row_ends) {
         for bit in 0..slots::width(slot) {
             let mut state = sample();
             slots::set(&mut state, slot, 1 << bit);

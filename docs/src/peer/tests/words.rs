@@ -10,11 +10,11 @@ use peer::services::*;
 const DIGITS: &str = "4294967295";
 
 /// The timeouts by document 000: the service, and which of its numbers it is.
-const TIMEOUTS: [(u32, usize); 3] = [(SLEEP, 0), (ACQUIRE, 1), (EVENT_WAIT, 3)];
+const TIMEOUTS: [(u32, usize); 5] = [(SLEEP, 0), (ACQUIRE, 1), (EVENT_WAIT, 3), (SEND, 2), (RECEIVE, 1)];
 
 /// Under each header every service that it has room for.
 fn services() -> impl Iterator<Item = (usize, u32)> {
-    let all = [3, 4].into_iter().flat_map(|width| (CREATE..=LAST_IN_LISTS).map(move |service| (width, service)));
+    let all = [3, 4].into_iter().flat_map(|width| in_lists().map(move |service| (width, service)));
     all.filter(|&(width, service)| SERVICES[service as usize].numbers <= width)
 }
 
@@ -44,7 +44,7 @@ fn in_every_timeout_it_is_the_number() {
             lists += 1;
         }
     }
-    assert_eq!(lists, 5 * 6); // a flag wait stands under one header alone
+    assert_eq!(lists, 9 * 6); // a flag wait stands under one header alone
 }
 
 #[test]
@@ -63,7 +63,7 @@ fn in_no_other_field_and_by_no_other_spelling() {
             }
         }
     }
-    assert_eq!(read, 5 * 3);
+    assert_eq!(read, 9 * 3);
 }
 
 /// The word with one of its bytes left out, or another in its place, and with a byte more at every place; and a file that ends in its midst.

@@ -73,6 +73,19 @@ fn flags() -> Parts {
     (first, vec![wait, wait, wait, wait, Call::of(ISET, 1, 3, 0), Call::of(ICLEAR, 1, 3, 0)])
 }
 
+/// Tasks of one level at a queue of four places: an interrupt hands over to one who waits, four elements go in, a fifth waits outside, and all
+/// come out in every way.
+fn queues() -> Parts {
+    let mut first = tasks(6, &[9]);
+    first.push(Call::of(QUEUE_CREATE, 1, 4, 0));
+    let receive = Call::of(RECEIVE, 1, 500, 0);
+    let mut again = vec![receive, Call::of(ISEND_POLLING, 1, 20, 0)];
+    again.extend((21..=23).map(|element| Call::of(SEND, 1, element, 500)));
+    again.extend([Call::of(SEND_POLLING, 1, 24, 0), Call::of(SEND, 1, 25, 500), receive, receive]);
+    again.extend([Call::of(RECEIVE_POLLING, 1, 0, 0), Call::of(IRECEIVE, 1, 0, 0), receive]);
+    (first, again)
+}
+
 /// The playback box: relay, reading, screen and library; keys and sensors release, the running task waits, ticks go on.
 fn playback() -> Parts {
     let mut first = vec![
@@ -103,13 +116,14 @@ fn refusals() -> Parts {
 }
 
 pub fn all(most: usize) -> Vec<Workload> {
-    let parts: [Named; 7] = [
+    let parts: [Named; 8] = [
         ("random", "random calls of all services", random),
         ("box", "the playback box's four tasks", playback),
         ("sleepers", "24 tasks asleep, ticks", sleepers),
         ("turns", "24 tasks at one level, slice 1, ticks", turns),
         ("signals", "24 tasks, waits and releases", signals),
         ("flags", "four waiters, a set that wakes all", flags),
+        ("queues", "a queue of four: handed over, filled, emptied", queues),
         ("refusals", "the most calls of a file, all but one refused", refusals),
     ];
     parts

@@ -10,7 +10,7 @@ use peer::sound::is_sound;
 
 pub struct Bench {
     pub kernel: Kernel,
-    /// What the last call got at once: bits, or ticks.
+    /// What the last call got at once: bits, an element, or ticks.
     pub value: u32,
 }
 
@@ -24,6 +24,16 @@ impl Bench {
         let mut kernel = Kernel::fresh();
         kernel.time = time;
         Bench { kernel, value: 0 }
+    }
+
+    /// With data queue 1 of this capacity, and tasks at level 5.
+    pub fn with_queue(capacity: u32, tasks: &[u32]) -> Bench {
+        let mut bench = Bench::fresh();
+        assert_eq!(bench.call(QUEUE_CREATE, 1, capacity, 0), (0, 0));
+        for &t in tasks {
+            assert_eq!(bench.call(CREATE, t, 5, 1).0, 0);
+        }
+        bench
     }
 
     pub fn make(&mut self, call: Call) -> (i32, u32) {
@@ -43,10 +53,10 @@ impl Bench {
         if code == 0 && call.service == READY_TICKS {
             assert_eq!(self.kernel, before, "{call} changed the state");
             assert_eq!(self.kernel.tasks[call.a as usize].entered.wrapping_add(value), self.kernel.time, "{call}");
-        } else {
+        } else if code != 0 || !matches!(call.service, RECEIVE | RECEIVE_POLLING | IRECEIVE) {
+            // an element may be 0, but a pattern is never met by no bits
             let gives = code == 0 && matches!(call.service, EVENT_WAIT | EVENT_POLLING | EVENT_IWAIT);
             assert_eq!(value != 0, gives, "{call} answered {code} with {value}");
-            // a pattern is never met by no bits
         }
         self.value = value;
         (code, running)
@@ -87,6 +97,24 @@ impl Bench {
 
     pub fn flag_waiters(&self, flag: usize) -> &[u8] {
         self.kernel.flags[flag].queue.as_slice()
+    }
+
+    /// What a poll of the data queue gives; it must be accepted.
+    pub fn polled(&mut self, queue: u32) -> u32 {
+        assert_eq!(self.call1(RECEIVE_POLLING, queue).0, 0);
+        self.value
+    }
+
+    pub fn stored(&self, queue: usize) -> Vec<u32> {
+        self.kernel.queues[queue].stored.iter().copied().collect()
+    }
+
+    pub fn senders(&self, queue: usize) -> &[u8] {
+        self.kernel.queues[queue].senders.as_slice()
+    }
+
+    pub fn receivers(&self, queue: usize) -> &[u8] {
+        self.kernel.queues[queue].receivers.as_slice()
     }
 
     pub fn bits(&self, flag: usize) -> u32 {

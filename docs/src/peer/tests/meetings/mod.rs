@@ -1,6 +1,7 @@
 //! The rare meetings that the rules are about: what one accepted call shows of them, by the states before and after it.
 //! tests/generator.rs counts how often the random calls come to each.
 
+mod queues;
 use peer::kernel::{Kernel, Level, Wait};
 use peer::services::*;
 
@@ -16,6 +17,8 @@ pub fn meetings(before: &Kernel, call: &Call, after: &Kernel) -> Vec<&'static st
                 seen.push(match old.wait {
                     Wait::Sleep => "a sleep runs out",
                     Wait::Semaphore(_) => "a semaphore wait times out",
+                    Wait::Send(..) => "a sender times out",
+                    Wait::Receive(_) => "a receiver times out",
                     _ => "a flag wait times out",
                 });
                 if old.suspended {
@@ -47,6 +50,7 @@ pub fn meetings(before: &Kernel, call: &Call, after: &Kernel) -> Vec<&'static st
         seen.push("a full wait queue");
     }
     seen.extend(flag_meetings(before, call, after));
+    seen.extend(queues::meetings(before, call, after));
     let subject = before.tasks.get(call.a as usize).copied().unwrap_or(before.tasks[0]);
     let caller = before.tasks[before.running()];
     match call.service {
@@ -64,8 +68,8 @@ pub fn meetings(before: &Kernel, call: &Call, after: &Kernel) -> Vec<&'static st
             seen.push("a deletion with 3 waiters")
         }
         SUSPEND if call.a as usize == before.running() => seen.push("a task suspends itself"),
-        SLEEP | ACQUIRE if caller.handed != 0 => seen.push("another wait after bits handed over"),
-        SLEEP | ACQUIRE if caller.wait_code != 0 => seen.push("a wait after a wait code"),
+        SLEEP | ACQUIRE | RECEIVE if caller.handed != 0 => seen.push("another wait after something was handed over"),
+        SLEEP | ACQUIRE | SEND | RECEIVE if caller.wait_code != 0 => seen.push("a wait after a wait code"),
         TICK if is_at_the_end_of_its_slice(before) && !is_alone(before) => {
             seen.push(if expired > 0 { "a level turns as a wait runs out" } else { "a level turns" })
         }
@@ -99,10 +103,12 @@ fn charge_meetings(before: &Kernel, call: &Call, after: &Kernel) -> Vec<&'static
             TICK if runs && new.charge > old.charge => seen.push("a charge rises above 1"),
             TICK if runs && is_alone(before) => seen.push("a charge of a task that is alone goes back"),
             EXIT if runs && new.is_runnable() => seen.push("an exit restarts in the middle of a slice"),
-            SLEEP | ACQUIRE | EVENT_WAIT if runs && !new.is_runnable() => {
+            SLEEP | ACQUIRE | EVENT_WAIT | SEND | RECEIVE if runs && !new.is_runnable() => {
                 seen.push("a wait begins in the middle of a slice")
             }
-            SLEEP | ACQUIRE | EVENT_WAIT if runs => seen.push("a wait is met at once in the middle of a slice"),
+            SLEEP | ACQUIRE | EVENT_WAIT | SEND | RECEIVE if runs => {
+                seen.push("a wait is met at once in the middle of a slice")
+            }
             SUSPEND if named && runs => seen.push("a task suspends itself in the middle of its slice"),
             SUSPEND | TERMINATE if named => seen.push("a preempted task is stopped in the middle of its slice"),
             CHANGE_PRIORITY if named && new.priority == old.priority => seen.push("an equal priority and a charge"),
@@ -201,7 +207,9 @@ fn entry_meetings(before: &Kernel, call: &Call, after: &Kernel) -> Vec<&'static 
                 seen.push("another priority of who is not ready is not marked")
             }
             CHANGE_PRIORITY if call.a as usize == t && late => seen.push("an equal priority is not marked"),
-            SUSPEND | SLEEP | ACQUIRE | EVENT_WAIT if late && old.is_runnable() && !new.is_runnable() => {
+            SUSPEND | SLEEP | ACQUIRE | EVENT_WAIT | SEND | RECEIVE
+                if late && old.is_runnable() && !new.is_runnable() =>
+            {
                 seen.push("who leaves its level keeps its mark")
             }
             _ if marked => seen.push("another call's entry is marked"),
