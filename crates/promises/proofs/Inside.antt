@@ -64,7 +64,7 @@ pub of-queues : List Promise
 of-queues =
     typed queues.spread_levels.signature (λ M. queues.spread_levels.clauses) (λ M. queues.spread_levels.Met.met) (λ w κs a g h o p. given w (λ i j. laws.queues 31 i j)) ∷
     of queues.gather_levels.signature (λ M. queues.gather_levels.clauses) (λ M. queues.gather_levels.Met.met) (λ w κs a g h o p. plain w result) ∷
-    typed queues.spread_waits.signature (λ M. queues.spread_waits.clauses) (λ M. queues.spread_waits.Met.met) (λ w κs a g h o p. given w (λ i j. laws.queues 21 i j)) ∷
+    typed queues.spread_waits.signature (λ M. queues.spread_waits.clauses) (λ M. queues.spread_waits.Met.met) (λ w κs a g h o p. given w (λ i j. laws.queues 29 i j)) ∷
     of queues.gather_waits.signature (λ M. queues.gather_waits.clauses) (λ M. queues.gather_waits.Met.met) (λ w κs a g h o p. plain w result) ∷
     of queues.lent.best.signature (λ M. queues.lent.best.clauses) (λ M. queues.lent.best.Met.met) (λ w κs a g h o p. plain w result) ∷
     typed queues.lent.relist_levels.signature (λ M. queues.lent.relist_levels.clauses) (λ M. queues.lent.relist_levels.Met.met) (λ w κs a g h o p. given w (λ i j. laws.queues 31 i j)) ∷
@@ -72,7 +72,7 @@ of-queues =
     of queues.lent.first_of_level.signature (λ M. queues.lent.first_of_level.clauses) (λ M. queues.lent.first_of_level.Met.met) (λ w κs a g h o p. plain w result) ∷
     of queues.lent.second_of_level.signature (λ M. queues.lent.second_of_level.clauses) (λ M. queues.lent.second_of_level.Met.met) (λ w κs a g h o p. plain w result) ∷
     of queues.lent.first_waiter.signature (λ M. queues.lent.first_waiter.clauses) (λ M. queues.lent.first_waiter.Met.met) (λ w κs a g h o p. plain w result) ∷
-    typed queues.lent.relist_waits.signature (λ M. queues.lent.relist_waits.clauses) (λ M. queues.lent.relist_waits.Met.met) (λ w κs a g h o p. given w (λ i j. laws.queues 21 i j)) ∷
+    typed queues.lent.relist_waits.signature (λ M. queues.lent.relist_waits.clauses) (λ M. queues.lent.relist_waits.Met.met) (λ w κs a g h o p. given w (λ i j. laws.queues 29 i j)) ∷
     of queues.lent.waiters.signature (λ M. queues.lent.waiters.clauses) (λ M. queues.lent.waiters.Met.met) (λ w κs a g h o p. plain w result) ∷
     []
 
