@@ -196,6 +196,9 @@ of-sound_parts =
     of sound_parts.flag.flag_sound.signature (λ M. sound_parts.flag.flag_sound.clauses) (λ M. sound_parts.flag.flag_sound.Met.met) (λ w κs a g h o p. plain w result) ∷
     of sound_parts.flag.is_unmet.signature (λ M. sound_parts.flag.is_unmet.clauses) (λ M. sound_parts.flag.is_unmet.Met.met) (λ w κs a g h o p. plain w result) ∷
     of sound_parts.flag.second_waiter.signature (λ M. sound_parts.flag.second_waiter.clauses) (λ M. sound_parts.flag.second_waiter.Met.met) (λ w κs a g h o p. plain w result) ∷
+    of sound_parts.queue.stock_sound.signature (λ M. sound_parts.queue.stock_sound.clauses) (λ M. sound_parts.queue.stock_sound.Met.met) (λ w κs a g h o p. plain w result) ∷
+    of sound_parts.queue.is_queue_wait.signature (λ M. sound_parts.queue.is_queue_wait.clauses) (λ M. sound_parts.queue.is_queue_wait.Met.met) (λ w κs a g h o p. plain w result) ∷
+    of sound_parts.queue.is_unserved.signature (λ M. sound_parts.queue.is_unserved.clauses) (λ M. sound_parts.queue.is_unserved.Met.met) (λ w κs a g h o p. plain w result) ∷
     of sound_parts.record.task_sound.signature (λ M. sound_parts.record.task_sound.clauses) (λ M. sound_parts.record.task_sound.Met.met) (λ w κs a g h o p. plain w result) ∷
     of sound_parts.record.slice_sound.signature (λ M. sound_parts.record.slice_sound.clauses) (λ M. sound_parts.record.slice_sound.Met.met) (λ w κs a g h o p. plain w result) ∷
     of sound_parts.record.charge_sound.signature (λ M. sound_parts.record.charge_sound.clauses) (λ M. sound_parts.record.charge_sound.Met.met) (λ w κs a g h o p. plain w result) ∷
