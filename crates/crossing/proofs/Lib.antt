@@ -1,4 +1,4 @@
 pub mod Tests
 pub mod Rows
 pub mod Exactly
-mod Steps
+pub mod Steps

@@ -1,9 +1,9 @@
 -- Laws by which the loops of crossing off go on, from one place to the next and from one row to the next.
 -- Rests on specs/Crossing.
-use mathlib.Core.Path.{_≡_, sym, _∙_}
+use mathlib.Core.Path.{_≡_, refl, sym, _∙_}
 use mathlib.Core.Bool.{Bool, true, false, _&&_, not, and-assoc, and-true, and-false}
-use mathlib.Core.List.{List}
-use Prim.Native.Nat.{ℕ, suc, _+_, _-_, _≤_, _<_}
+use mathlib.Core.List.{List, [], _∷_}
+use Prim.Native.Nat.{ℕ, zero, suc, _+_, _-_, _≤_, _<_}
 use native.Mathlib.Decide.{ℕ-discrete, decLt}
 use native.Mathlib.Numerals.{add-one}
 use native.Mathlib.Omega.{arith}
@@ -14,13 +14,19 @@ use borrow.Author.Tests.{eq-eqb, ne-eqb, lt-ltb, le-ltb}
 use Rattle.model.specs.Test.{zeros, isListed}
 use Rattle.crossing.specs.Crossing.{crosses, crossed, crossesAll, rowEnd}
 
--- ---- zeros
+-- ---- zeros. Past the end of a list every place reads as 0
+zeros-next : (q : List ℕ) (i : ℕ) → zeros (drop i q) ≡ (eqb (getD q i 0) 0 && zeros (drop (suc i) q))
+unfolding zeros
+zeros-next [] zero = refl
+zeros-next [] (suc i) = refl
+zeros-next (x ∷ q) zero = refl
+zeros-next (x ∷ q) (suc i) = zeros-next q i
+
 module _ (q : List ℕ) (i : ℕ) where
   -- what was seen and what is left say it of the whole, one place further on
-  pub zeros-on : (clear r : Bool) → i < length q → r ≡ (clear && zeros (drop i q)) → r ≡ ((clear && eqb (getD q i 0) 0) && zeros (drop (i + 1) q))
-  unfolding zeros
-  zeros-on clear r h e =
-      let f : r ≡ (clear && (eqb (getD q i 0) 0 && zeros (drop (suc i) q))) = rw (drop-cons q i 0 h) at e in
+  pub zeros-on : (clear r : Bool) → r ≡ (clear && zeros (drop i q)) → r ≡ ((clear && eqb (getD q i 0) 0) && zeros (drop (i + 1) q))
+  zeros-on clear r e =
+      let f : r ≡ (clear && (eqb (getD q i 0) 0 && zeros (drop (suc i) q))) = rw (zeros-next q i) at e in
       rw add-one (f ∙ sym (and-assoc clear (eqb (getD q i 0) 0) (zeros (drop (suc i) q))))
 
   -- and at the end what was seen

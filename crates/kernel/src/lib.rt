@@ -34,11 +34,14 @@ pub fn fresh() -> State
         attributes: [0u32; 9],
         bits: [0u32; 9],
         time: 0,
+        capacities: [0u32; 9],
+        taken: [0u32; 9],
+        elements: [0u32; 144],
     };
     State {
         tasks: [nobody; 25],
         levels: [empty; 31],
-        waits: [empty; 21],
+        waits: [empty; 29],
         numbers,
     }
 }
@@ -84,8 +87,8 @@ pub fn call(s: State, c: Context, a: Call) -> Answer
     let mut bytes = [0u8; 300];
     let mut words = [0u32; 125];
     let mut levels = [0u8; 744];
-    let mut waits = [0u8; 504];
-    let mut numbers = [0u32; 76];
+    let mut waits = [0u8; 696];
+    let mut numbers = [0u32; 238];
     tables::spread(
         &mut bytes,
         &mut words,

@@ -12,6 +12,7 @@ use Rattle.checks.proofs as checks
 use Rattle.plans_task.proofs as plans_task
 use Rattle.plans_semaphore.proofs as plans_semaphore
 use Rattle.plans_flag.proofs as plans_flag
+use Rattle.plans_queue.proofs as plans_queue
 use Rattle.plans.proofs as plans
 use Rattle.crossing.proofs as crossing
 use Rattle.sound_parts.proofs as sound_parts
@@ -28,10 +29,13 @@ pub of-records : List Promise
 of-records =
     of records.level_of.signature (λ M. records.level_of.clauses) (λ M. records.level_of.Met.met) (λ w κs a g h o p. plain w result) ∷
     of records.flag_row.signature (λ M. records.flag_row.clauses) (λ M. records.flag_row.Met.met) (λ w κs a g h o p. plain w result) ∷
+    of records.queue_row.signature (λ M. records.queue_row.clauses) (λ M. records.queue_row.Met.met) (λ w κs a g h o p. plain w result) ∷
     of records.row_of.signature (λ M. records.row_of.clauses) (λ M. records.row_of.Met.met) (λ w κs a g h o p. plain w result) ∷
-    of records.asleep.signature (λ M. records.asleep.clauses) (λ M. records.asleep.Met.met) (λ w κs a g h o p. plain w result) ∷
-    of records.on_semaphore.signature (λ M. records.on_semaphore.clauses) (λ M. records.on_semaphore.Met.met) (λ w κs a g h o p. plain w result) ∷
-    of records.on_flag.signature (λ M. records.on_flag.clauses) (λ M. records.on_flag.Met.met) (λ w κs a g h o p. plain w result) ∷
+    of records.waits.asleep.signature (λ M. records.waits.asleep.clauses) (λ M. records.waits.asleep.Met.met) (λ w κs a g h o p. plain w result) ∷
+    of records.waits.on_semaphore.signature (λ M. records.waits.on_semaphore.clauses) (λ M. records.waits.on_semaphore.Met.met) (λ w κs a g h o p. plain w result) ∷
+    of records.waits.on_flag.signature (λ M. records.waits.on_flag.clauses) (λ M. records.waits.on_flag.Met.met) (λ w κs a g h o p. plain w result) ∷
+    of records.waits.to_send.signature (λ M. records.waits.to_send.clauses) (λ M. records.waits.to_send.Met.met) (λ w κs a g h o p. plain w result) ∷
+    of records.waits.to_receive.signature (λ M. records.waits.to_receive.clauses) (λ M. records.waits.to_receive.Met.met) (λ w κs a g h o p. plain w result) ∷
     of records.dormant.signature (λ M. records.dormant.clauses) (λ M. records.dormant.Met.met) (λ w κs a g h o p. plain w result) ∷
     of records.no_task.signature (λ M. records.no_task.clauses) (λ M. records.no_task.Met.met) (λ w κs a g h o p. plain w result) ∷
     of records.activated.signature (λ M. records.activated.clauses) (λ M. records.activated.Met.met) (λ w κs a g h o p. plain w result) ∷
@@ -60,7 +64,7 @@ pub of-queues : List Promise
 of-queues =
     typed queues.spread_levels.signature (λ M. queues.spread_levels.clauses) (λ M. queues.spread_levels.Met.met) (λ w κs a g h o p. given w (λ i j. laws.queues 31 i j)) ∷
     of queues.gather_levels.signature (λ M. queues.gather_levels.clauses) (λ M. queues.gather_levels.Met.met) (λ w κs a g h o p. plain w result) ∷
-    typed queues.spread_waits.signature (λ M. queues.spread_waits.clauses) (λ M. queues.spread_waits.Met.met) (λ w κs a g h o p. given w (λ i j. laws.queues 21 i j)) ∷
+    typed queues.spread_waits.signature (λ M. queues.spread_waits.clauses) (λ M. queues.spread_waits.Met.met) (λ w κs a g h o p. given w (λ i j. laws.queues 29 i j)) ∷
     of queues.gather_waits.signature (λ M. queues.gather_waits.clauses) (λ M. queues.gather_waits.Met.met) (λ w κs a g h o p. plain w result) ∷
     of queues.lent.best.signature (λ M. queues.lent.best.clauses) (λ M. queues.lent.best.Met.met) (λ w κs a g h o p. plain w result) ∷
     typed queues.lent.relist_levels.signature (λ M. queues.lent.relist_levels.clauses) (λ M. queues.lent.relist_levels.Met.met) (λ w κs a g h o p. given w (λ i j. laws.queues 31 i j)) ∷
@@ -68,7 +72,7 @@ of-queues =
     of queues.lent.first_of_level.signature (λ M. queues.lent.first_of_level.clauses) (λ M. queues.lent.first_of_level.Met.met) (λ w κs a g h o p. plain w result) ∷
     of queues.lent.second_of_level.signature (λ M. queues.lent.second_of_level.clauses) (λ M. queues.lent.second_of_level.Met.met) (λ w κs a g h o p. plain w result) ∷
     of queues.lent.first_waiter.signature (λ M. queues.lent.first_waiter.clauses) (λ M. queues.lent.first_waiter.Met.met) (λ w κs a g h o p. plain w result) ∷
-    typed queues.lent.relist_waits.signature (λ M. queues.lent.relist_waits.clauses) (λ M. queues.lent.relist_waits.Met.met) (λ w κs a g h o p. given w (λ i j. laws.queues 21 i j)) ∷
+    typed queues.lent.relist_waits.signature (λ M. queues.lent.relist_waits.clauses) (λ M. queues.lent.relist_waits.Met.met) (λ w κs a g h o p. given w (λ i j. laws.queues 29 i j)) ∷
     of queues.lent.waiters.signature (λ M. queues.lent.waiters.clauses) (λ M. queues.lent.waiters.Met.met) (λ w κs a g h o p. plain w result) ∷
     []
 
@@ -91,12 +95,21 @@ of-numbers =
     of numbers.attributes_at.signature (λ M. numbers.attributes_at.clauses) (λ M. numbers.attributes_at.Met.met) (λ w κs a g h o p. plain w result) ∷
     of numbers.bits_at.signature (λ M. numbers.bits_at.clauses) (λ M. numbers.bits_at.Met.met) (λ w κs a g h o p. plain w result) ∷
     of numbers.time_in.signature (λ M. numbers.time_in.clauses) (λ M. numbers.time_in.Met.met) (λ w κs a g h o p. plain w result) ∷
+    of numbers.capacity_at.signature (λ M. numbers.capacity_at.clauses) (λ M. numbers.capacity_at.Met.met) (λ w κs a g h o p. plain w result) ∷
+    of numbers.taken_at.signature (λ M. numbers.taken_at.clauses) (λ M. numbers.taken_at.Met.met) (λ w κs a g h o p. plain w result) ∷
+    of numbers.elements.element_at.signature (λ M. numbers.elements.element_at.clauses) (λ M. numbers.elements.element_at.Met.met) (λ w κs a g h o p. plain w result) ∷
     typed numbers.put_slice.signature (λ M. numbers.put_slice.clauses) (λ M. numbers.put_slice.Met.met) (λ w κs a g h o p. given w (λ i j. laws.numbers i j)) ∷
     typed numbers.put_count.signature (λ M. numbers.put_count.clauses) (λ M. numbers.put_count.Met.met) (λ w κs a g h o p. given w (λ i j. laws.numbers i j)) ∷
     typed numbers.put_maximum.signature (λ M. numbers.put_maximum.clauses) (λ M. numbers.put_maximum.Met.met) (λ w κs a g h o p. given w (λ i j. laws.numbers i j)) ∷
     typed numbers.put_attributes.signature (λ M. numbers.put_attributes.clauses) (λ M. numbers.put_attributes.Met.met) (λ w κs a g h o p. given w (λ i j. laws.numbers i j)) ∷
     typed numbers.put_bits.signature (λ M. numbers.put_bits.clauses) (λ M. numbers.put_bits.Met.met) (λ w κs a g h o p. given w (λ i j. laws.numbers i j)) ∷
     typed numbers.put_time.signature (λ M. numbers.put_time.clauses) (λ M. numbers.put_time.Met.met) (λ w κs a g h o p. given w (λ i j. laws.numbers i j)) ∷
+    typed numbers.put_capacity.signature (λ M. numbers.put_capacity.clauses) (λ M. numbers.put_capacity.Met.met) (λ w κs a g h o p. given w (λ i j. laws.numbers i j)) ∷
+    typed numbers.put_taken.signature (λ M. numbers.put_taken.clauses) (λ M. numbers.put_taken.Met.met) (λ w κs a g h o p. given w (λ i j. laws.numbers i j)) ∷
+    typed numbers.elements.put_element.signature (λ M. numbers.elements.put_element.clauses) (λ M. numbers.elements.put_element.Met.met) (λ w κs a g h o p. given w (λ i j. laws.numbers i j)) ∷
+    typed numbers.elements.pull_elements.signature (λ M. numbers.elements.pull_elements.clauses) (λ M. numbers.elements.pull_elements.Met.met) (λ w κs a g h o p. given w (λ i j. laws.numbers i j)) ∷
+    typed numbers.elements.refill_elements.signature (λ M. numbers.elements.refill_elements.clauses) (λ M. numbers.elements.refill_elements.Met.met) (λ w κs a g h o p. given w (λ i j. laws.numbers i j)) ∷
+    typed numbers.elements.clear_elements.signature (λ M. numbers.elements.clear_elements.clauses) (λ M. numbers.elements.clear_elements.Met.met) (λ w κs a g h o p. given w (λ i j. laws.numbers i j)) ∷
     typed numbers.spread.signature (λ M. numbers.spread.clauses) (λ M. numbers.spread.Met.met) (λ w κs a g h o p. given w (λ i j. laws.numbers i j)) ∷
     of numbers.gather.signature (λ M. numbers.gather.clauses) (λ M. numbers.gather.Met.met) (λ w κs a g h o p. plain w result) ∷
     []
@@ -107,6 +120,7 @@ of-tables =
     of tables.gather.signature (λ M. tables.gather.clauses) (λ M. tables.gather.Met.met) (λ w κs a g h o p. plain w result) ∷
     of tables.semaphore_at.signature (λ M. tables.semaphore_at.clauses) (λ M. tables.semaphore_at.Met.met) (λ w κs a g h o p. plain w result) ∷
     of tables.flag_at.signature (λ M. tables.flag_at.clauses) (λ M. tables.flag_at.Met.met) (λ w κs a g h o p. plain w result) ∷
+    of tables.queue_at.signature (λ M. tables.queue_at.clauses) (λ M. tables.queue_at.Met.met) (λ w κs a g h o p. plain w result) ∷
     []
 
 pub of-checks : List Promise
@@ -118,6 +132,7 @@ of-checks =
     of checks.is_timeout.signature (λ M. checks.is_timeout.clauses) (λ M. checks.is_timeout.Met.met) (λ w κs a g h o p. plain w result) ∷
     of checks.is_slice.signature (λ M. checks.is_slice.clauses) (λ M. checks.is_slice.Met.met) (λ w κs a g h o p. plain w result) ∷
     of checks.is_flag.signature (λ M. checks.is_flag.clauses) (λ M. checks.is_flag.Met.met) (λ w κs a g h o p. plain w result) ∷
+    of checks.is_queue.signature (λ M. checks.is_queue.clauses) (λ M. checks.is_queue.Met.met) (λ w κs a g h o p. plain w result) ∷
     of checks.is_attributes.signature (λ M. checks.is_attributes.clauses) (λ M. checks.is_attributes.Met.met) (λ w κs a g h o p. plain w result) ∷
     of checks.checked.signature (λ M. checks.checked.clauses) (λ M. checks.checked.Met.met) (λ w κs a g h o p. plain w result) ∷
     of checks.refused.signature (λ M. checks.refused.clauses) (λ M. checks.refused.Met.met) (λ w κs a g h o p. plain w result) ∷
@@ -161,6 +176,9 @@ of-plans_flag =
     of plans_flag.flag_subject.signature (λ M. plans_flag.flag_subject.clauses) (λ M. plans_flag.flag_subject.Met.met) (λ w κs a g h o p. plain w result) ∷
     of plans_flag.flag_plan.signature (λ M. plans_flag.flag_plan.clauses) (λ M. plans_flag.flag_plan.Met.met) (λ w κs a g h o p. plain w result) ∷
     []
+
+pub of-plans_queue : List Promise
+of-plans_queue = of plans_queue.queue_plan.signature (λ M. plans_queue.queue_plan.clauses) (λ M. plans_queue.queue_plan.Met.met) (λ w κs a g h o p. plain w result) ∷ []
 
 pub of-plans : List Promise
 of-plans =

@@ -104,10 +104,10 @@ abbrev Levels : Lifetime → Lft → RefT (List ℕ) → List ℕ → Type 2
 Levels = Lent u8 744
 
 abbrev Waits : Lifetime → Lft → RefT (List ℕ) → List ℕ → Type 2
-Waits = Lent u8 504
+Waits = Lent u8 696
 
 abbrev Numbered : Lifetime → Lft → RefT (List ℕ) → List ℕ → Type 2
-Numbered = Lent u32 76
+Numbered = Lent u32 238
 
 -- the bytes and the words of the records
 pub records : {ℓ ℓ₂ : Lifetime} {κ κ₂ : Lft} {x x₂ : RefT (List ℕ)} {X Y : Type 2} {b c v w : List ℕ} {d : List Task} {U : Type 0} {u : U}
@@ -124,7 +124,7 @@ words {u = u} {v = v} {w = w} b i j p q k = (tt, (tt, (same-words b v b w (long 
 -- the numbers
 pub numbers : {ℓ : Lifetime} {κ : Lft} {x : RefT (List ℕ)} {X Y : Type 2} {U : Type 0} {u : U} {n m : List ℕ} {d : Numbers} → Numbered ℓ κ x n × X → Numbered ℓ κ x m × Y → heldIn n ≡ d → heldIn m ≡ d
     → _≡_ {A = Unit {0} × (List ℕ × U)} (tt, (n, u)) (tt, (m, u))
-numbers {u = u} {n = n} {m = m} i j p q k = (tt, (same-numbers n m (long u32 76 (i .0)) (long u32 76 (j .0)) (p ∙ sym q) k, u))
+numbers {u = u} {n = n} {m = m} i j p q k = (tt, (same-numbers n m (long u32 238 (i .0)) (long u32 238 (j .0)) (p ∙ sym q) k, u))
 
 -- n queues
 pub queues : {ℓ : Lifetime} {κ : Lft} {x : RefT (List ℕ)} {X Y : Type 2} (n : ℕ) {U : Type 0} {u : U} {l m : List ℕ} {d : List Queue} → Lent u8 (n * 24) ℓ κ x l × X → Lent u8 (n * 24) ℓ κ x m × Y → queuesOf n l ≡ d → queuesOf n m ≡ d
@@ -144,8 +144,8 @@ five {b = b} {c = c} {v = v} {w = w} {l = l} {m = m} {q = q} {r = r} {n = n} {o 
     (same-bytes b v c w (long u8 300 (i .0)) (long u8 300 (j .0)) ts k)
     (same-words b v c w (long u32 125 (i .1 .0)) (long u32 125 (j .1 .0)) ts k)
     (same-queues 31 l m (long u8 744 (i .1 .1 .0)) (long u8 744 (j .1 .1 .0)) (ap (λ (y : State). y .levels) z) k)
-    (same-queues 21 q r (long u8 504 (i .1 .1 .1 .0)) (long u8 504 (j .1 .1 .1 .0)) (ap (λ (y : State). y .waits) z) k)
-    (same-numbers n o (long u32 76 (i .1 .1 .1 .1 .0)) (long u32 76 (j .1 .1 .1 .1 .0)) (ap (λ (y : State). y .numbers) z) k)
+    (same-queues 29 q r (long u8 696 (i .1 .1 .1 .0)) (long u8 696 (j .1 .1 .1 .0)) (ap (λ (y : State). y .waits) z) k)
+    (same-numbers n o (long u32 238 (i .1 .1 .1 .1 .0)) (long u32 238 (j .1 .1 .1 .1 .0)) (ap (λ (y : State). y .numbers) z) k)
     (a k)
 
 -- all but the numbers, which are only read
@@ -165,7 +165,7 @@ four {b = b} {c = c} {v = v} {w = w} {l = l} {m = m} {q = q} {r = r} {u = u} n i
           same-words b v c w (long u32 125 (i .1 .0)) (long u32 125 (j .1 .0)) ts k,
           (
             same-queues 31 l m (long u8 744 (i .1 .1 .0)) (long u8 744 (j .1 .1 .0)) (ap (λ (y : State). y .levels) z) k,
-            (same-queues 21 q r (long u8 504 (i .1 .1 .1 .0)) (long u8 504 (j .1 .1 .1 .0)) (ap (λ (y : State). y .waits) z) k, (tt, u)),
+            (same-queues 29 q r (long u8 696 (i .1 .1 .1 .0)) (long u8 696 (j .1 .1 .1 .0)) (ap (λ (y : State). y .waits) z) k, (tt, u)),
           ),
         ),
       ),

@@ -39,7 +39,7 @@ pub record Left (wide : Bool) (file : List ℕ) (h : ℕ) (ks : List ℕ) (at n 
   pub total : size ≡ 16 + length (rowsText 1 rows)
 
 pub starts : (wide : Bool) (file : List ℕ) (h : ℕ) (ks : List ℕ) → (h < length file → 18 ≤ h) → h ≤ length file → length ks ≡ 3639
-    → Left wide file h ks h 0 16 0 (stateIn (replicate 300 0) (replicate 125 0) (replicate 744 0) (replicate 504 0) (replicate 76 0))
+    → Left wide file h ks h 0 16 0 (stateIn (replicate 300 0) (replicate 125 0) (replicate 744 0) (replicate 696 0) (replicate 238 0))
 unfolding rowsText
 starts wide file h ks p q a = record { rows = []; walk = walking.starts wide file h p q; short = omega arith; places = a; kept = refl; total = refl }
 

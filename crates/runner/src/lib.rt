@@ -51,8 +51,8 @@ fn play(file: &[u8], wide: bool, h: usize, kept: &mut Kept) -> Played
     let mut bytes = [0u8; 300];
     let mut words = [0u32; 125];
     let mut levels = [0u8; 744];
-    let mut waits = [0u8; 504];
-    let mut numbers = [0u32; 76];
+    let mut waits = [0u8; 696];
+    let mut numbers = [0u32; 238];
     let mut run: u8 = 0;
     while at < file.len() {
         let Line::Reads {

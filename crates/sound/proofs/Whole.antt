@@ -18,13 +18,13 @@ use Rattle.model.specs.State.{task}
 use Rattle.model.specs.Test.{below, everyRow, areQueues, listsExactly, isBlank, isSized, isOrigin, isSound}
 use Rattle.stored.specs.Stored.{tasksOf}
 use Rattle.stored.proofs.Laws.{length-tasks}
-use Rattle.queues.specs.Queues.{queuesOf}
+use Rattle.queues.specs.Queues.{queuesOf, waitRows}
 use Rattle.queues.proofs.Bridge.{length-queues, length-row-queue}
 use Rattle.numbers.proofs.Laws.{part-long}
 use Rattle.tables.specs.Lent.{stateIn}
 use Rattle.crossing.specs.Crossing.{crossesAll}
 use Rattle.crossing.proofs.Tests.{both}
-use Rattle.sound.specs.Parts.{taskAt, chargeAt, unmetAt, sliceAt, countAt, flagAt}
+use Rattle.sound.specs.Parts.{taskAt, chargeAt, unmetAt, unservedAt, sliceAt, countAt, flagAt, stockAt}
 use Rattle.sound.proofs.Tables.{wanted-exactly}
 
 -- ---- a record of zeros is in no queue
@@ -70,13 +70,15 @@ others s runnable waiting =
     && (below 13 (countAt (s .numbers) (s .waits))
     && (below 9 (flagAt (s .numbers) (s .waits))
     && (below 25 (unmetAt (s .tasks) (s .numbers .bits))
-    && (runnable && waiting))))))
+    && (below 9 (stockAt (s .numbers) (s .waits))
+    && (below 25 (unservedAt s)
+    && (runnable && waiting))))))))
 
 -- the queues crossed off
 abbrev pub tested : State → List ℕ → List ℕ → Bool
-tested s levels waits = others s (crossesAll 31 0 levels (map levelOf (s .tasks))) (crossesAll 21 0 waits (map rowOf (s .tasks)))
+tested s levels waits = others s (crossesAll 31 0 levels (map levelOf (s .tasks))) (crossesAll waitRows 0 waits (map rowOf (s .tasks)))
 
-module _ (b w l q n : List ℕ) (levels# : length l ≡ 744) (waits# : length q ≡ 504) (numbers# : length n ≡ 76) where
+module _ (b w l q n : List ℕ) (levels# : length l ≡ 744) (waits# : length q ≡ 696) (numbers# : length n ≡ 238) where
   abbrev s : State
   s = stateIn b w l q n
 
@@ -85,12 +87,15 @@ module _ (b w l q n : List ℕ) (levels# : length l ≡ 744) (waits# : length q 
       rw (
         length-tasks b w,
         queues-sized 31 l levels#,
-        queues-sized 21 q waits#,
+        queues-sized waitRows q waits#,
         part-long 0 31 n (omega arith),
         part-long 31 13 n (omega arith),
         part-long 44 13 n (omega arith),
         part-long 57 9 n (omega arith),
         part-long 66 9 n (omega arith),
+        part-long 76 9 n (omega arith),
+        part-long 85 9 n (omega arith),
+        part-long 94 144 n (omega arith),
       )
 
   pub sound-tested : isSound s ≡ (isOrigin s && tested s l q)
@@ -98,7 +103,7 @@ module _ (b w l q n : List ℕ) (levels# : length l ≡ 744) (waits# : length q 
   sound-tested = rw sized (go (isOrigin s) refl)
     where
       listed : Bool
-      listed = others s (listsExactly (s .levels) 31 (λ t. levelOf (task s t))) (listsExactly (s .waits) 21 (λ t. rowOf (task s t)))
+      listed = others s (listsExactly (s .levels) 31 (λ t. levelOf (task s t))) (listsExactly (s .waits) waitRows (λ t. rowOf (task s t)))
 
       go : (o : Bool) → isOrigin s ≡ o → (o && listed) ≡ (o && tested s l q)
       go false e = refl
@@ -106,5 +111,5 @@ module _ (b w l q n : List ℕ) (levels# : length l ≡ 744) (waits# : length q 
           let k = both (isBlank (task s 0)) _ e .0 in
           rw (
             wanted-exactly levelOf 31 l (tasksOf b w) (length-tasks b w) none-level (blank-level (task s 0) k),
-            wanted-exactly rowOf 21 q (tasksOf b w) (length-tasks b w) none-row (blank-row (task s 0) k),
+            wanted-exactly rowOf waitRows q (tasksOf b w) (length-tasks b w) none-row (blank-row (task s 0) k),
           )

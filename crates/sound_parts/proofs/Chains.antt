@@ -4,8 +4,8 @@ use mathlib.Core.Path.{_≡_}
 use mathlib.Core.Bool.{Bool, _&&_, and-assoc}
 
 module _ (a b c d e f : Bool) where
-  pub six : (((((a && b) && c) && d) && e) && f) ≡ (a && (b && (c && (d && (e && f)))))
-  six = simp and-assoc
+  pub seven : (g : Bool) → ((((((a && b) && c) && d) && e) && f) && g) ≡ (a && (b && (c && (d && (e && (f && g))))))
+  seven g = simp and-assoc
 
   pub eight : (g h : Bool) → (((((((a && b) && c) && d) && e) && f) && g) && h) ≡ (a && (b && (c && (d && (e && (f && (g && h)))))))
   eight g h = simp and-assoc

@@ -5,7 +5,7 @@ ghost use mathlib.Core.Path.{_≡_};
 ghost use Rattle.model.specs.Row.{secondOf};
 ghost use Rattle.model.specs.Flag.{isFlagAttributes};
 ghost use Rattle.model.specs.Test.{isFlagSound, isUnmet};
-ghost use Rattle.queues.specs.Queues.{queuesOf};
+ghost use Rattle.queues.specs.Queues.{waitsOf};
 use model::Wait;
 use queues::Waits;
 use records::FLAG;
@@ -34,11 +34,11 @@ pub fn is_unmet(w: Wait, bits: u32) -> bool
 
 // The task that stands second in a row of the table of waits, or 0.
 pub fn second_waiter(waits: &Waits, l: usize) -> u8
-    ensures { λ r. ⌜ r ≡ secondOf (queuesOf 21 (now (waits .entry))) l ⌝ }
+    ensures { λ r. ⌜ r ≡ secondOf (waitsOf (now (waits .entry))) l ⌝ }
 {
     // as a slice, which tells the prover how long it is
     let ws: &[u8] = waits;
-    if 20 < l {
+    if 28 < l {
         return 0;
     }
     ws[l * 24 + 1]

@@ -5,6 +5,7 @@ ghost use mathlib.Core.Bool.{_&&_};
 ghost use lib.Dec.{eqb};
 ghost use Rattle.model.specs.Plan.{within, isSlice};
 ghost use Rattle.model.specs.Test.{isNoWait, isBlank, isWaitCode, isResting, isWaitSound, isAskSound, isSpareSound, isTaskSound, isChargeSound, isCountSound};
+use crate::queue::is_queue_wait;
 use model::Task;
 use model::Wait;
 use records::DLT;
@@ -12,6 +13,7 @@ use records::FLAG;
 use records::NOTHING;
 use records::RELEASED;
 use records::SEMAPHORE;
+use records::SEND;
 use records::SERVED;
 use records::SLEEP;
 use records::TIMEOUT;
@@ -88,8 +90,13 @@ fn is_wait_sound(x: Task) -> bool
         let semaphore_fits = is_within(1, object, 12);
         return goes_on & semaphore_fits;
     }
-    let flag_fits = is_within(1, object, 8);
-    goes_on & (kind == FLAG) & flag_fits
+    // there are as many data queues as flags
+    let fits = is_within(1, object, 8);
+    if kind == FLAG {
+        return goes_on & fits;
+    }
+    let on_queue = is_queue_wait(x.wait);
+    goes_on & on_queue & fits
 }
 
 fn is_ask_sound(w: Wait) -> bool
@@ -101,7 +108,7 @@ fn is_ask_sound(w: Wait) -> bool
     if kind == FLAG {
         return (pattern != 0) & (mode <= 1);
     }
-    (pattern == 0) & (mode == 0)
+    ((kind == SEND) | (pattern == 0)) & (mode == 0)
 }
 
 fn is_spare_sound(x: Task) -> bool
@@ -164,9 +171,23 @@ pub fn count_sound(count: u32, maximum: u32, first: u8) -> bool
 }
 
 // Place 0 of every table is unused.
-pub fn is_origin(x: Task, slice: u32, count: u32, maximum: u32, attributes: u32, bits: u32) -> bool
-    ensures { λ r. ⌜ r ≡ (isBlank x && (eqb slice 0 && (eqb count 0 && (eqb maximum 0 && (eqb attributes 0 && eqb bits 0))))) ⌝ }
+pub fn is_origin(
+    x: Task,
+    slice: u32,
+    count: u32,
+    maximum: u32,
+    attributes: u32,
+    bits: u32,
+    capacity: u32,
+) -> bool
+    ensures { λ r. ⌜ r ≡ (isBlank x && (eqb slice 0 && (eqb count 0 && (eqb maximum 0 && (eqb attributes 0 && (eqb bits 0 && eqb capacity 0)))))) ⌝ }
 {
     let blank = is_blank(x);
-    blank & (slice == 0) & (count == 0) & (maximum == 0) & (attributes == 0) & (bits == 0)
+    blank
+        & (slice == 0)
+        & (count == 0)
+        & (maximum == 0)
+        & (attributes == 0)
+        & (bits == 0)
+        & (capacity == 0)
 }

@@ -58,7 +58,7 @@ pub record Walked (wide : Bool) (file : List ℕ) (h at n run : ℕ) (s : State)
   pub walk : Walk wide file h rows at n run s
 
 -- before the first line: tables of zeros are the fresh state's, and there nobody runs
-blank : stateIn (replicate 300 0) (replicate 125 0) (replicate 744 0) (replicate 504 0) (replicate 76 0) ≡ fresh
+blank : stateIn (replicate 300 0) (replicate 125 0) (replicate 744 0) (replicate 696 0) (replicate 238 0) ≡ fresh
 unfolding tasksOf recordsFrom queuesFrom rowIn part
 blank = refl
 
@@ -67,7 +67,7 @@ unfolding bestFrom row queuesFrom rowIn
 idle = refl
 
 pub starts : (wide : Bool) (file : List ℕ) (h : ℕ) → (h < length file → 18 ≤ h) → h ≤ length file
-    → Walk wide file h [] h 0 0 (stateIn (replicate 300 0) (replicate 125 0) (replicate 744 0) (replicate 504 0) (replicate 76 0))
+    → Walk wide file h [] h 0 0 (stateIn (replicate 300 0) (replicate 125 0) (replicate 744 0) (replicate 696 0) (replicate 238 0))
 starts wide file h p q =
     let d : scriptIn wide 0 (drop h file) 2 ≡ scriptIn wide h file 2 = sym (script-drop wide h file 2) in
     record { inside = q; behind = p; many = refl; runs = idle; faults = rw d; all = rw (d, blank) }

@@ -23,7 +23,7 @@ loop-holds c = refl
 loop-again : tie.Need-loop-again Inv-loop μ-loop
 loop-again c =
     let l = c .before .before .loop in
-    zeros-on (c .before .before .before .args .q .now) (l .i) (l .clear) _ (omega arith) (l .inv)
+    zeros-on (c .before .before .before .args .q .now) (l .i) (l .clear) _ (l .inv)
 
 returns : tie.Need-returns Inv-loop μ-loop
 returns c = let l = c .before .loop in zeros-end (c .before .before .args .q .now) (l .i) (l .clear) _ (omega arith) (l .inv)

@@ -19,8 +19,26 @@ returns-3 c =
 
 returns-4 : tie.Need-returns-4
 returns-4 c =
-    rw (c .is-within2 .ensures, ne-eqb _ _ (c .before .before .before .if1 .left), ne-eqb _ _ (c .before .before .if2 .left), ne-eqb _ _ (c .before .if3 .left))
+    rw (
+      c .before .is-within2 .ensures,
+      ne-eqb _ _ (c .before .before .before .before .if1 .left),
+      ne-eqb _ _ (c .before .before .before .if2 .left),
+      ne-eqb _ _ (c .before .before .if3 .left),
+      eq-eqb _ _ (c .if4 .taken),
+    )
+    (simp and-assoc)
+
+returns-5 : tie.Need-returns-5
+returns-5 c =
+    rw (
+      c .is-queue-wait .ensures,
+      c .before .before .is-within2 .ensures,
+      ne-eqb _ _ (c .before .before .before .before .before .if1 .left),
+      ne-eqb _ _ (c .before .before .before .before .if2 .left),
+      ne-eqb _ _ (c .before .before .before .if3 .left),
+      ne-eqb _ _ (c .before .if4 .left),
+    )
     (simp and-assoc)
 
 pub is-wait-sound-spec : {M : Type 1} → statement M
-is-wait-sound-spec = tie.close (tie.spec returns returns-2 (λ c κs. search needs) returns-3 (λ c κs. search needs) returns-4)
+is-wait-sound-spec = tie.close (tie.spec returns returns-2 (λ c κs. search needs) returns-3 (λ c κs. search needs) returns-4 (λ c κs. search needs) returns-5)
