@@ -1,7 +1,7 @@
 -- Each effect on a state, from what its parts say of it: one law for each arm of `carry`, and those of a stop.
 -- They rest on the definitions of model/specs/Effect alone.
-use mathlib.Core.Path.{_≡_, _∙_}
-use mathlib.Core.List.{List}
+use mathlib.Core.Path.{_≡_, refl, _∙_}
+use mathlib.Core.List.{List, [], _∷_}
 use Prim.Native.Nat.{ℕ, _+_, _%_, _^_}
 use lib.ListN.{set}
 use borrow.Author.Tests.{eq-eqb, ne-eqb}
@@ -13,6 +13,10 @@ use Rattle.model.specs.declared.News.the-variants.{Deleted}
 use Rattle.model.specs.declared.Effect.{Effect}
 use Rattle.model.specs.declared.Effect.the-variants.{Nothing, Moves, Stops, Counts, Deletes, Slices, Ticks, Flags, Tells}
 use Rattle.model.specs.declared.Effect.the-variants.{Queues, Removes, Stores, Takes, Refills}
+use denote.Enum.Declared.{tagOf}
+use types.Run.{OneOf, miss}
+use Rattle.model.proofs.Effect as effect
+use Rattle.carry.specs.Queue.{ofQueue}
 use Rattle.model.specs.Row.{firstOf}
 use Rattle.model.specs.Flag.{flagRow}
 use Rattle.model.specs.Task.{dormant, activated, withMarks}
@@ -88,6 +92,10 @@ module _ (run : ℕ) (e : Effect) (s : State) where
   pub refills : (q : ℕ) (s₁ : State) → e ≡ Refills q → s₁ ≡ refilled q s → s₁ ≡ carriedFrom run s e
   refills q s₁ f m = rw f m
 
+  -- one of them, x, is carried out by those of data queues alone
+  pub passed : (x : Effect) (s₁ : State) → e ≡ x → carriedFrom 0 s (ofQueue x) ≡ carriedFrom run s x → s₁ ≡ carriedFrom 0 s (ofQueue e) → s₁ ≡ carriedFrom run s e
+  passed x s₁ f same m = m ∙ rw f same
+
   -- after the news: the state that it left
   module _ (q : List ℕ) (w : News) (s₁ : State) (x y : Numbers) (h : s₁ ≡ toldAll w q s) where
     pub deletes : (m : ℕ) → e ≡ Deletes m → w ≡ Deleted → q ≡ waiters s m → x ≡ noted ofCounts m 0 (s₁ .numbers) → y ≡ noted ofMaxima m 0 x → with s₁ y ≡ carriedFrom run s e
@@ -97,3 +105,23 @@ module _ (run : ℕ) (e : Effect) (s : State) where
     pub tells : (f a b l : ℕ) → e ≡ Tells f w a b → l ≡ flagRow f → q ≡ waiters s l → x ≡ noted ofAttributes f a (s₁ .numbers) → y ≡ noted ofBits f b x → with s₁ y ≡ carriedFrom run s e
     unfolding toldFlag flagged
     tells f a b l g o p i j = rw (g, j, i, h, p, o)
+
+-- ---- the tags of the effects that no service of data queues has, but none at all
+abbrev pub restOfEffects : List ℕ
+restOfEffects = 0 ∷ 2 ∷ 3 ∷ 4 ∷ 5 ∷ 6 ∷ 7 ∷ 8 ∷ []
+
+pub none-of-queues : (s : State) (e : Effect) → OneOf restOfEffects (tagOf effect.the-type e) → s ≡ carriedFrom 0 s (ofQueue e)
+none-of-queues s Nothing h = refl
+none-of-queues s (Moves t x) h = absurd (miss restOfEffects 1 tt h)
+none-of-queues s (Stops t) h = refl
+none-of-queues s (Counts m n v) h = refl
+none-of-queues s (Deletes m) h = refl
+none-of-queues s (Slices l v) h = refl
+none-of-queues s Ticks h = refl
+none-of-queues s (Flags f a b) h = refl
+none-of-queues s (Tells f w a b) h = refl
+none-of-queues s (Queues q c) h = absurd (miss restOfEffects 9 tt h)
+none-of-queues s (Removes q) h = absurd (miss restOfEffects 10 tt h)
+none-of-queues s (Stores q n v) h = absurd (miss restOfEffects 11 tt h)
+none-of-queues s (Takes q) h = absurd (miss restOfEffects 12 tt h)
+none-of-queues s (Refills q) h = absurd (miss restOfEffects 13 tt h)

@@ -3,10 +3,7 @@
 ghost use mathlib.Core.Path.{_≡_};
 ghost use Rattle.model.specs.Effect.{stopped, tickedFrom, carriedFrom};
 ghost use Rattle.tables.specs.Lent.{before, after};
-use crate::queue::refill;
-use crate::queue::remove;
-use crate::queue::store;
-use crate::queue::take;
+use crate::queue::carry_queue;
 use effects::move_from;
 use effects::move_task;
 use model::Effect;
@@ -21,7 +18,7 @@ use stored::Words;
 use stored::put_charge;
 use stored::record_at;
 
-mod queue;
+pub mod queue;
 
 // ---- one task becomes dormant, and runnable again at once where an activation is counted
 fn stop_task(
@@ -119,16 +116,10 @@ pub fn carry(
             numbers::put_attributes(numbers, flag as usize, attributes);
             numbers::put_bits(numbers, flag as usize, bits);
         }
-        Effect::Queues { queue, capacity } => {
-            numbers::put_capacity(numbers, queue as usize, capacity)
-        }
-        Effect::Removes { queue } => remove(bytes, words, levels, waits, numbers, queue),
-        Effect::Stores {
-            queue,
-            taken,
-            element,
-        } => store(numbers, queue, taken, element),
-        Effect::Takes { queue } => take(numbers, queue),
-        Effect::Refills { queue } => refill(bytes, words, levels, waits, numbers, queue),
+        Effect::Queues { .. } => carry_queue(bytes, words, levels, waits, numbers, e),
+        Effect::Removes { .. } => carry_queue(bytes, words, levels, waits, numbers, e),
+        Effect::Stores { .. } => carry_queue(bytes, words, levels, waits, numbers, e),
+        Effect::Takes { .. } => carry_queue(bytes, words, levels, waits, numbers, e),
+        Effect::Refills { .. } => carry_queue(bytes, words, levels, waits, numbers, e),
     }
 }

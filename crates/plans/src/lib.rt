@@ -45,7 +45,7 @@ use stored::record_at;
 use tables::flag_at;
 use tables::semaphore_at;
 
-mod queue;
+pub mod queue;
 
 // ---- contexts
 // The running task, or start-up code.

@@ -30,7 +30,7 @@ fn is_queue_inside(service: QueueService) -> bool
     }
 }
 
-pub(crate) fn queue_plan_in(
+pub fn queue_plan_in(
     bytes: &Bytes,
     words: &Words,
     levels: &Levels,

@@ -89,6 +89,10 @@ pub fn row_of(x: Task) -> u8
 {
     let kind = x.wait.kind;
     let object = x.wait.object;
+    // most records wait for nothing, or sleep
+    if kind < SEMAPHORE {
+        return 0;
+    }
     if kind == SEMAPHORE {
         return object;
     }

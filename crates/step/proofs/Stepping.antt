@@ -10,7 +10,8 @@ use Rattle.model.specs.declared.Call.{Call}
 use Rattle.model.specs.declared.Plan.{Plan}
 use Rattle.model.specs.declared.Answer.{Answer}
 use Rattle.model.specs.declared.Context.the-variants.{I}
-use Rattle.model.specs.declared.Call.the-variants.{TickIntProcessing}
+use Rattle.model.specs.declared.Call.the-variants.{TickIntProcessing, OnQueue}
+use Rattle.model.specs.declared.QueueService.{QueueService}
 use Rattle.model.specs.declared.Code.the-variants.{NoErr, WContext}
 use Rattle.model.specs.Row.{bestFrom}
 use Rattle.model.specs.State.{running}
@@ -18,13 +19,25 @@ use Rattle.model.specs.Service.{tick}
 use Rattle.model.specs.Services.{same, isMine}
 use Rattle.model.proofs.Words.{table}
 use Rattle.model.specs.Effect.{tickedFrom, carriedFrom, carried}
+use Rattle.model.specs.State.{task, dataQueue}
 use Rattle.model.specs.Call.{plan, plannedFrom, planned, stepFrom, step}
+use Rattle.carry.specs.Queue.{ofQueue}
+use Rattle.step.proofs.Queues.{own-effects}
 
 pub stepped : (s : State) (c : Context) (a : Call) (run : ℕ) (p : Plan) (s₁ : State) (run₁ : ℕ)
     → p ≡ plannedFrom run s c a → s₁ ≡ carriedFrom run s (p .effect) → run₁ ≡ bestFrom 30 1 (s₁ .levels)
     → record { code = p .code; running = run₁; value = p .value; state = s₁ } ≡ stepFrom run s c a
 unfolding running
 stepped s c a run p s₁ run₁ e f g = rw (g, f, e)
+
+-- a service of data queues, whose effects are carried out apart
+pub queue-stepped : (s : State) (c : Context) (q : ℕ) (v : QueueService) (run : ℕ) (p : Plan) (s₁ : State) (run₁ : ℕ)
+    → p ≡ plannedFrom run s c (OnQueue q v) → s₁ ≡ carriedFrom 0 s (ofQueue (p .effect)) → run₁ ≡ bestFrom 30 1 (s₁ .levels)
+    → record { code = p .code; running = run₁; value = p .value; state = s₁ } ≡ stepFrom run s c (OnQueue q v)
+unfolding plan
+queue-stepped s c q v run p s₁ run₁ e f g =
+    stepped s c (OnQueue q v) run p s₁ run₁ e (f ∙ ap (λ (x : Plan). carriedFrom 0 s (ofQueue (x .effect))) e
+    ∙ own-effects (isMine c (OnQueue q v)) q v run (task s run) (dataQueue s q) .own run s ∙ sym (ap (λ (x : Plan). carriedFrom run s (x .effect)) e)) g
 
 -- a tick, which looks at no record
 module _ (run : ℕ) (s : State) (c : Context) (mine : Bool) (e : mine ≡ same c I) (run₁ : ℕ) where

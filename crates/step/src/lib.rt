@@ -1,13 +1,14 @@
 // The step of every call: the plan from the records it looks at, then its effect on the tables. It stands once, over lent tables,
 // for a caller that knows its state to be sound.
 ghost use mathlib.Core.Path.{_≡_};
-ghost use Rattle.model.specs.declared.Call.the-variants.{TickIntProcessing};
+ghost use Rattle.model.specs.declared.Call.the-variants.{TickIntProcessing, OnQueue};
 ghost use Rattle.model.specs.Call.{stepFrom};
 ghost use Rattle.tables.specs.Lent.{before, after};
 ghost use Rattle.step.specs.Answer.{answerOf};
 use model::Call;
 use model::Code;
 use model::Context;
+use model::QueueService;
 use numbers::NumberTable;
 use queues::Levels;
 use queues::Waits;
@@ -50,6 +51,43 @@ fn tick_in(
     }
 }
 
+// Nor does a service of data queues share its way with the others: its plans and effects stay out of theirs, which are the faster for it.
+fn queue_in(
+    bytes: &mut Bytes,
+    words: &mut Words,
+    levels: &mut Levels,
+    waits: &mut Waits,
+    numbers: &mut NumberTable,
+    run: u8,
+    c: Context,
+    queue: u32,
+    service: QueueService,
+) -> Stepped
+    ensures { λ r. ⌜ answerOf r (after bytes words levels waits numbers) ≡ stepFrom run (before bytes words levels waits numbers) c (OnQueue queue service) ⌝ }
+{
+    let p = plans::queue::queue_plan_in(
+        bytes,
+        words,
+        levels,
+        waits,
+        numbers,
+        run,
+        c,
+        queue,
+        service,
+    );
+    let code = p.code;
+    let value = p.value;
+    let effect = p.effect;
+    carry::queue::carry_queue(bytes, words, levels, waits, numbers, effect);
+    let running = best(levels);
+    Stepped {
+        code,
+        running,
+        value,
+    }
+}
+
 // The step where `run` runs: whoever takes step after step knows that from the last one.
 pub fn step_in(
     bytes: &mut Bytes,
@@ -65,6 +103,9 @@ pub fn step_in(
 {
     if let Call::TickIntProcessing = a {
         return tick_in(bytes, words, levels, waits, numbers, run, c);
+    }
+    if let Call::OnQueue { queue, service } = a {
+        return queue_in(bytes, words, levels, waits, numbers, run, c, queue, service);
     }
     let p = plans::plan_in(bytes, words, levels, waits, numbers, run, c, a);
     let code = p.code;

@@ -1,6 +1,6 @@
 -- `carry::carry` meets its contract: arm by arm.
 use mathlib.Core.Path.{refl}
-use mathlib.Core.List.{[]}
+use Rattle.model.specs.declared.Effect.the-variants.{Queues, Removes, Stores, Takes, Refills}
 use Rattle.tables.specs.Lent.{stateIn}
 use Rattle.carry.proofs.Arms as law
 use borrow.Author.Needs.{needs}
@@ -35,19 +35,19 @@ returns-9 : tie.Need-returns-9
 returns-9 c = law.tells _ _ (stateIn _ _ _ _ _) _ _ (stateIn _ _ _ _ _) _ _ (c .before .before .before .before .tell-all2 .ensures) _ _ _ _ (c .before .before .before .before .before .before .before .before .before .before .before .before .before .before .e7 .given .1) (c .before .before .before .before .before .before .before .before .before .before .before .flag-row .ensures) (c .before .before .before .before .before .before .before .before .before .before .waiters2 .ensures) (c .before .before .put-attributes2 .ensures) (c .put-bits2 .ensures)
 
 returns-10 : tie.Need-returns-10
-returns-10 c = law.queues _ _ (stateIn _ _ _ _ _) _ _ _ (c .before .before .before .e8 .given .1) (c .put-capacity .ensures)
+returns-10 c = law.passed _ _ _ (Queues _ _) _ (c .before .before .before .before .before .before .enum-told3 .given .1) refl (c .carry-queue .ensures)
 
 returns-11 : tie.Need-returns-11
-returns-11 c = law.removes _ _ _ _ _ (c .before .before .before .before .before .before .before .e9 .given .1) (c .remove .ensures)
+returns-11 c = law.passed _ _ _ (Removes _) _ (c .before .before .before .before .before .before .enum-told4 .given .1) refl (c .carry-queue2 .ensures)
 
 returns-12 : tie.Need-returns-12
-returns-12 c = law.stores _ _ (stateIn _ _ _ _ _) _ _ _ _ (stateIn [] [] [] [] []) (c .before .before .before .e10 .given .1) (c .store .ensures)
+returns-12 c = law.passed _ _ _ (Stores _ _ _) _ (c .before .before .before .before .before .before .enum-told5 .given .1) refl (c .carry-queue3 .ensures)
 
 returns-13 : tie.Need-returns-13
-returns-13 c = law.takes _ _ (stateIn _ _ _ _ _) _ _ (stateIn [] [] [] [] []) (c .before .before .before .e11 .given .1) (c .take .ensures)
+returns-13 c = law.passed _ _ _ (Takes _) _ (c .before .before .before .before .before .before .enum-told6 .given .1) refl (c .carry-queue4 .ensures)
 
 returns-14 : tie.Need-returns-14
-returns-14 c = law.refills _ _ _ _ _ (c .before .before .before .before .before .before .before .e12 .given .1) (c .refill .ensures)
+returns-14 c = law.passed _ _ _ (Refills _) _ (c .before .before .before .before .before .before .enum-told7 .given .1) refl (c .carry-queue5 .ensures)
 
 pub carry-spec : {M : Type 1} → statement M
 carry-spec =
@@ -92,7 +92,6 @@ carry-spec =
     (λ c κs. search needs)
     (λ c. search needs)
     (λ c κs. search needs)
-    (λ c. search needs)
     (λ c. search needs)
     (λ c κs. search needs)
     (λ c. search needs)
