@@ -183,6 +183,7 @@ of-plans_queue = of plans_queue.queue_plan.signature (λ M. plans_queue.queue_pl
 pub of-plans : List Promise
 of-plans =
     of plans.in_i.signature (λ M. plans.in_i.clauses) (λ M. plans.in_i.Met.met) (λ w κs a g h o p. plain w result) ∷
+    of plans.queue.queue_plan_in.signature (λ M. plans.queue.queue_plan_in.clauses) (λ M. plans.queue.queue_plan_in.Met.met) (λ w κs a g h o p. plain w result) ∷
     of plans.plan_in.signature (λ M. plans.plan_in.clauses) (λ M. plans.plan_in.Met.met) (λ w κs a g h o p. plain w result) ∷
     []
 
@@ -224,6 +225,7 @@ of-effects =
 pub of-carry : List Promise
 of-carry =
     typed carry.tick.signature (λ M. carry.tick.clauses) (λ M. carry.tick.Met.met) (λ w κs a g h o p. given w (λ i j. five (λ s. s) (λ b v l q n s. (tt, (b, (v, (l, (q, (n, _))))))) i j refl refl)) ∷
+    typed carry.queue.carry_queue.signature (λ M. carry.queue.carry_queue.clauses) (λ M. carry.queue.carry_queue.Met.met) (λ w κs a g h o p. given w (λ i j. five (λ s. s) (λ b v l q n s. (tt, (b, (v, (l, (q, (n, _))))))) i j refl refl)) ∷
     typed carry.carry.signature (λ M. carry.carry.clauses) (λ M. carry.carry.Met.met) (λ w κs a g h o p. given w (λ i j. five (λ s. s) (λ b v l q n s. (tt, (b, (v, (l, (q, (n, _))))))) i j refl refl)) ∷
     []
 

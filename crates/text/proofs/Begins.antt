@@ -2,12 +2,12 @@
 -- It rests on the definition of `begins`.
 use Prim.Native.Nat.{ℕ, zero, suc, _+_, _<_, _≤_}
 use mathlib.Core.Path.{_≡_, refl}
-use mathlib.Core.Bool.{Bool, true, false, cond, false≢true}
+use mathlib.Core.Bool.{Bool, true, false, cond, _&&_, false≢true}
 use mathlib.Core.List.{List, [], _∷_}
 use native.Mathlib.Omega.{arith}
 use lib.Dec.{eqb}
 use lib.ListN.{length, getD, drop, drop-of-length-le}
-use borrow.Author.Tests.{eq-eqb, ne-eqb, eqb-true}
+use borrow.Author.Tests.{eqb-true}
 use Rattle.text.specs.Bytes.{begins}
 use Rattle.text.proofs.Places.{next}
 
@@ -16,13 +16,23 @@ module _ (s t : List ℕ) (i : ℕ) where
   unfolding begins
   begins-end h = rw (drop-of-length-le t h)
 
-  pub begins-other : i < length s → i < length t → (getD s i 0 ≡ getD t i 0 → ⊥) → begins (drop i s) (drop i t) ≡ false
+  -- so far, and at place i
+  pub begins-next : (so : Bool) → length t ≤ length s → i < length t
+      → so && begins (drop i s) (drop i t) ≡ (so && eqb (getD s i 0) (getD t i 0)) && begins (drop (i + 1) s) (drop (i + 1) t)
   unfolding begins
-  begins-other h g e = rw (next t i g, next s i h, ne-eqb _ _ e)
+  begins-next so h g = rw (next t i g, next s i (omega arith)) (go so (eqb (getD s i 0) (getD t i 0)))
+    where
+      rest : Bool
+      rest = begins (drop (i + 1) s) (drop (i + 1) t)
 
-  pub begins-same : i < length s → i < length t → getD s i 0 ≡ getD t i 0 → begins (drop i s) (drop i t) ≡ begins (drop (i + 1) s) (drop (i + 1) t)
-  unfolding begins
-  begins-same h g e = rw (next t i g, next s i h, eq-eqb _ _ e)
+      go : (a b : Bool) → a && cond b rest false ≡ (a && b) && rest
+      go true true = refl
+      go true false = refl
+      go false b = refl
+
+pub and-true : (b : Bool) → b && true ≡ b
+and-true true = refl
+and-true false = refl
 
 pub begins-short : (s t : List ℕ) → length s < length t → begins s t ≡ false
 unfolding begins

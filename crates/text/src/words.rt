@@ -24,14 +24,14 @@ pub fn begins(s: &[u8], t: &[u8]) -> bool
     if s.len() < t.len() {
         return false;
     }
+    // all bytes are looked at, so that they are compared several at a time
+    let mut same = true;
     let mut i: usize = 0;
     while i < t.len() {
-        if s[i] != t[i] {
-            return false;
-        }
+        same = same & (s[i] == t[i]);
         i = i + 1;
     }
-    true
+    same
 }
 
 // Whether n bytes have room from the place `at` on, where there are `places`.

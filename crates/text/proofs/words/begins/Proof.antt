@@ -1,20 +1,21 @@
--- `text::words::begins` meets its contract. The invariant: what is left of both decides.
+-- `text::words::begins` meets its contract. The invariant: what is the same so far and what is left of both decide.
 -- It rests on the laws of `begins`.
 use Prim.Native.Nat.{_≤_, _-_}
 use mathlib.Core.Path.{_≡_, refl, sym, _∙_}
+use mathlib.Core.Bool.{_&&_}
 use native.Mathlib.Omega.{arith}
 use lib.ListN.{length, drop}
 use Rattle.text.specs.Bytes.{begins}
-use Rattle.text.proofs.Begins.{begins-short, begins-end, begins-other, begins-same}
+use Rattle.text.proofs.Begins.{begins-short, begins-end, begins-next, and-true}
 use borrow.Author.Needs.{needs}
 use Rattle.text.proofs.words.begins.Statement.{statement}
 use Rattle.text.proofs.words.begins.Tie as tie
 
 abbrev Inv-loop : tie.InvT-loop
-Inv-loop s t i₀ i = (length t ≤ length s) × (i ≤ length t) × (begins (drop i s) (drop i t) ≡ begins s t)
+Inv-loop s t same₀ i₀ same i = (length t ≤ length s) × (i ≤ length t) × (same && begins (drop i s) (drop i t) ≡ begins s t)
 
 abbrev μ-loop : tie.MeasureT-loop
-μ-loop s t i₀ i = length t - i
+μ-loop s t same₀ i₀ same i = length t - i
 
 returns : tie.Need-returns Inv-loop μ-loop
 returns c = sym (begins-short _ _ (c .if1 .taken))
@@ -22,14 +23,11 @@ returns c = sym (begins-short _ _ (c .if1 .taken))
 loop-holds : tie.Need-loop-holds Inv-loop μ-loop
 loop-holds c = (omega arith, omega arith, refl)
 
-shared-slice-read-if2 : tie.Need-shared-slice-read-if2 Inv-loop μ-loop
-shared-slice-read-if2 c = search needs
+shared-slice-read-same : tie.Need-shared-slice-read-same Inv-loop μ-loop
+shared-slice-read-same c = search needs
 
-shared-slice-read-if2-2 : tie.Need-shared-slice-read-if2-2 Inv-loop μ-loop
-shared-slice-read-if2-2 c = search needs
-
-returns-2 : tie.Need-returns-2 Inv-loop μ-loop
-returns-2 c = sym (begins-other _ _ _ (omega arith) (c .before .before .before .loop-test .taken) (c .if2 .taken)) ∙ c .before .before .before .before .loop .inv .2
+shared-slice-read-same-2 : tie.Need-shared-slice-read-same-2 Inv-loop μ-loop
+shared-slice-read-same-2 c = search needs
 
 add-i : tie.Need-add-i Inv-loop μ-loop
 add-i c = search needs
@@ -38,10 +36,10 @@ loop-less : tie.Need-loop-less Inv-loop μ-loop
 loop-less c = search needs
 
 loop-again : tie.Need-loop-again Inv-loop μ-loop
-loop-again c = (omega arith, omega arith, sym (begins-same _ _ _ (omega arith) (c .before .before .before .loop-test .taken) (c .if2 .left)) ∙ c .before .before .before .before .loop .inv .2)
+loop-again c = (omega arith, omega arith, sym (begins-next (c .before .before .before .before .before .args .s .now) (c .before .before .before .before .before .args .t .now) (c .before .before .before .loop .i) (c .before .before .before .loop .same) (c .before .before .before .loop .inv .0) (c .before .before .loop-test .taken)) ∙ c .before .before .before .loop .inv .2)
 
-returns-3 : tie.Need-returns-3 Inv-loop μ-loop
-returns-3 c = sym (begins-end _ _ _ (c .loop-test .left)) ∙ c .before .loop .inv .2
+returns-2 : tie.Need-returns-2 Inv-loop μ-loop
+returns-2 c = sym (and-true _) ∙ sym (rw (begins-end _ _ _ (c .loop-test .left)) at (sym (c .before .loop .inv .2)))
 
 pub begins-spec : {M : Type 1} → statement M
 begins-spec =
@@ -51,10 +49,9 @@ begins-spec =
     μ-loop
     returns
     loop-holds
-    shared-slice-read-if2
-    shared-slice-read-if2-2
-    returns-2
+    shared-slice-read-same
+    shared-slice-read-same-2
     add-i
     loop-less
     loop-again
-    returns-3)
+    returns-2)
