@@ -3,7 +3,6 @@
 use mathlib.Core.List.{List, [], _∷_}
 use Prim.Native.Nat.{ℕ}
 use lib.Dec.{T as So}
-use Rattle.model.specs.declared.Call.{Call}
 use Rattle.model.specs.declared.Call.the-variants.{TaskCreate, TaskActivate, TaskTerminate, TaskSuspend, TaskResume, TaskSleep, TaskWakeup, TaskReleaseWait, TaskChangePriority, OnQueue}
 use Rattle.model.specs.declared.QueueService.the-variants.{Create, Delete, Send, SendPolling, IsendPolling, Receive, ReceivePolling, Ireceive}
 use Rattle.model.specs.Code.{minus}

@@ -1,6 +1,6 @@
 -- A data queue's numbers: the places that hold its elements, what an element that comes or goes makes of them, and its row in the table of waits.
 -- They are those of request P11; nothing of the state is asked here.
-use mathlib.Core.Bool.{Bool, cond, _&&_}
+use mathlib.Core.Bool.{cond, _&&_}
 use mathlib.Core.List.{List}
 use Prim.Native.Nat.{ℕ, _+_, _*_}
 use lib.Dec.{leb}

@@ -5,9 +5,8 @@ use mathlib.Core.List.{List, [], _∷_, _++_, append-assoc}
 use Prim.Native.Nat.{ℕ, zero, suc, _+_, _*_, _-_, _≤_, _<_}
 use native.Mathlib.Nat.{zero-add, suc-add}
 use native.Mathlib.Omega.{arith}
-use lib.ListN.{getD, set, length, take, drop, length-take, length-set, drop-of-length-le}
+use lib.ListN.{getD, set, length, take, drop, length-set, drop-of-length-le}
 use lib.Seq.{sets, sets-eq, set-out, drop-drop, drop-set-add, take-set-lt, take-take, take-nil}
-use Rattle.model.specs.declared.Numbers.{Numbers}
 use Rattle.model.specs.DataQueue.{placesOf, put, pulled}
 use Rattle.model.specs.State.{filled}
 use Rattle.laws.proofs.Row.{length-gap}

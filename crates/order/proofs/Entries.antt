@@ -1,15 +1,15 @@
 -- Laws of the ledger's entries: what is live after one more entry, and after some tasks give up.
 -- They rest on specs/Ledger; of a state nothing is asked but who waits to receive.
-use mathlib.Core.Path.{_≡_, refl, sym, ap, _∙_}
-use mathlib.Core.Bool.{Bool, true, false, cond, not, _&&_, false≢true}
-use mathlib.Core.List.{List, [], _∷_, _++_, append-assoc}
+use mathlib.Core.Path.{_≡_, refl, ap}
+use mathlib.Core.Bool.{Bool, true, false, cond, not, _&&_}
+use mathlib.Core.List.{List, [], _∷_, _++_}
 use Prim.Native.Nat.{ℕ}
 use lib.Dec.{eqb}
 use borrow.Author.Tests.{eq-eqb}
-use Rattle.order.specs.Lists.{has, once, tasks, elements, keeping}
+use Rattle.order.specs.Lists.{has, once, tasks, keeping}
 use Rattle.model.specs.declared.State.{State}
 use Rattle.order.specs.Ledger.{receivers, Sent, live, isWithdrawn, withdrawing, withdrawnBy, handedTo}
-use Rattle.order.proofs.Lists.{or-true, and-none, has-behind, once-rest, tasks-append}
+use Rattle.order.proofs.Lists.{or-true, has-behind, once-rest, tasks-append}
 
 pub live-joined : (l : List Sent) (t e : ℕ) → live (l ++ (record { waiter = t; element = e; withdrawn = false } ∷ [])) ≡ live l ++ ((t, e) ∷ [])
 unfolding live

@@ -4,7 +4,7 @@ use mathlib.Core.Path.{_≡_, refl, ap}
 use mathlib.Core.List.{List, [], _∷_}
 use Prim.Native.Nat.{ℕ, _≤_, _<_}
 use native.Mathlib.Omega.{arith}
-use lib.ListN.{length, getD, List·getD-eq-default}
+use lib.ListN.{List·getD-eq-default}
 use Rattle.model.specs.declared.State.{State}
 use Rattle.model.specs.declared.Context.{Context}
 use Rattle.model.specs.declared.Call.{Call}
@@ -22,7 +22,7 @@ use Rattle.order.specs.Ledger.{senders, Ledger, noLedger, entered, ledge
 use Rattle.order.specs.Statements.{storedIn, InOrder, NoneWithout}
 use Rattle.order.proofs.Kept.{begins, ordered}
 use Rattle.order.proofs.Sides.{unmade-sides}
-use Rattle.order.proofs.Others.{KeptIn, Held}
+use Rattle.order.proofs.Others.{KeptIn}
 use Rattle.order.proofs.Ordered.{after-call}
 
 module _ (q : ℕ) (low : 1 ≤ q) (top : q ≤ 8) where

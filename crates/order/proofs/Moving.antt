@@ -1,6 +1,6 @@
 -- Those in a row of the table of waits, each with what its record asks: what a move, news, a stop and a tick make of them. Where nobody enters the
 -- row, those who stay keep their order and ask for what they asked. It rests on Listed and Folds of soundness.
-use mathlib.Core.Path.{_≡_, refl, sym, ap, _∙_, subst}
+use mathlib.Core.Path.{_≡_, refl, sym, ap, _∙_}
 use mathlib.Core.Bool.{Bool, true, false, cond, not, _&&_, false≢true}
 use mathlib.Core.List.{List, [], _∷_, _++_}
 use mathlib.Core.Logic.{_⊎_, inl, inr, ⊎-elim}
@@ -9,14 +9,14 @@ use native.Mathlib.Nat.{not-suc-le-zero}
 use native.Mathlib.Omega.{arith}
 use lib.Dec.{T as So, eqb}
 use lib.ListN.{length, List·getD-eq-default}
-use borrow.Author.Tests.{eq-eqb, ne-eqb}
+use borrow.Author.Tests.{eq-eqb}
 use Rattle.model.specs.declared.Task.{Task}
 use Rattle.model.specs.declared.State.{State}
 use Rattle.model.specs.declared.News.{News}
 use Rattle.model.specs.declared.News.the-variants.{Deleted, Bits}
-use Rattle.model.specs.Row.{row, joined, relisted}
+use Rattle.model.specs.Row.{row, joined}
 use Rattle.model.specs.Flag.{isMet}
-use Rattle.model.specs.Task.{noTask, served, dlt, rowOf, isTimed, dormant, activated, settled, ended, ranOut, withRemaining, aged, told}
+use Rattle.model.specs.Task.{noTask, served, dlt, rowOf, isTimed, dormant, activated, ended, ranOut, withRemaining, aged, told}
 use Rattle.model.specs.State.{task, time, moved}
 use Rattle.model.specs.Effect.{stopped, toldAll, lapsed}
 use Rattle.model.specs.Test.{occ, padded, isListed}
@@ -28,10 +28,10 @@ use Rattle.laws.proofs.Record.{row-none, row-settled}
 use Rattle.laws.proofs.Relisted.{relisted-kept, row-relisted-from, row-relisted-to, row-relisted-other}
 use Rattle.soundness.proofs.Listed.{key-of, has-room, listed-not, lists-relisted}
 use Rattle.soundness.proofs.Moved.{task-kept, task-moved, tasks-moved}
-use Rattle.soundness.proofs.Folds.{Chained, by-stop, by-news, by-fall}
-use Rattle.order.specs.Lists.{has, once, staying, paired, keeping}
+use Rattle.soundness.proofs.Folds.{Chained, by-news, by-fall}
+use Rattle.order.specs.Lists.{has, once, staying, paired}
 use Rattle.order.proofs.Lists.{both, has-staying}
-use Rattle.order.proofs.Listing.{paired-append, listing-joined, paired-same, keeping-paired, staying-twice, staying-all, listing-left, not-listed, once-listing}
+use Rattle.order.proofs.Listing.{paired-append, listing-joined, paired-same, staying-twice, staying-all, listing-left, not-listed, once-listing}
 
 -- those in row r
 abbrev pub queue : State → ℕ → List ℕ

@@ -21,14 +21,12 @@ use Rattle.laws.proofs.Places.{length-put, length-pulled}
 use Rattle.soundness.proofs.Told.{waiter-in, first-waits}
 use Rattle.soundness.proofs.Running.{runner}
 use Rattle.ways.specs.Kind.{Kind}
-use Rattle.ways.specs.Entry as Entries
 use Rattle.ways.specs.Entry.{Entry, receiving}
 use Rattle.ways.proofs.Done.{atOnce, byPoll, firstAt, Begins, sleeps, queues, asks as asksFlag, sends, receives, QueueMade, Receives, direct, oldest, refills, Done, Way, refuses, accepts}
 use Rattle.ways.proofs.Done.{Done as Ways}
 use Rattle.order.specs.Lists.{has}
 use Rattle.order.specs.Ledger.{Ledger, entered}
 use Rattle.order.proofs.Kept.{Kept}
-use Rattle.order.proofs.Kept as Keeping
 use Rattle.order.proofs.Moving.{queue}
 use Rattle.order.proofs.Sides.{row-low, first-in}
 use Rattle.order.proofs.Stock.{size as places}

@@ -28,14 +28,12 @@ use Rattle.soundness.proofs.Folds.{numbers-moved, numbers-stopped, numbers-told
 use Rattle.soundness.proofs.Records.{WaitsAs}
 use Rattle.soundness.proofs.Changed.{named-in, change-waits}
 use Rattle.turns.proofs.Still.{Charged, only-charged}
-use Rattle.ways.specs.Entry as Entries
 use Rattle.ways.specs.Entry.{sending, none}
 use Rattle.ways.proofs.Done.{Named, firstAt, Change}
 use Rattle.order.specs.Lists.{has, tasks}
 use Rattle.order.specs.Ledger.{senders, Ledger, noLedger, stopsSending, withdrawnBy, withGivenUp, entered}
 use Rattle.order.specs.Statements.{storedIn}
 use Rattle.order.proofs.Kept.{Kept, shrinks}
-use Rattle.order.proofs.Kept as Keeping
 use Rattle.order.proofs.Moving.{queue, asks, Good, sound-good, Shrinks, shrinks-like, shrinks-twice, Leaves, leaves-ended, after-moved, after-lapsed, after-stopped, after-told, in-row}
 use Rattle.order.proofs.Sides.{row-low, row-top, senders-kept, once-senders, first-in}
 use Rattle.order.proofs.Stock.{stored-else, capacity-else, size as places}

@@ -29,7 +29,6 @@ use Rattle.soundness.proofs.Moved.{task-moved}
 use Rattle.soundness.proofs.Folds.{numbers-moved, numbers-told}
 use Rattle.soundness.proofs.Running.{runner}
 use Rattle.turns.specs.Tally.{isZero}
-use Rattle.ways.specs.Entry as Entries
 use Rattle.ways.specs.Entry.{Entry, creation, deletion, release, acquisition, poll, opening, closing, receiving, sending, none}
 use Rattle.ways.proofs.Done.{firstAt, Side, queues}
 use Rattle.order.specs.Lists.{has, tasks, keeping}

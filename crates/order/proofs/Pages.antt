@@ -1,6 +1,6 @@
 -- Pages of a data queue's ledger, computed over the definitions, after each call: three senders and one that times out between the others, a sender that only
 -- looks served, the same element sent again, receivers that are handed one, a deletion. They are written in the form of specs/Page.
-use mathlib.Core.List.{List, [], _∷_, _++_}
+use mathlib.Core.List.{List, [], _∷_}
 use Prim.Native.Nat.{ℕ}
 use lib.Dec.{T as So}
 use Rattle.model.specs.declared.Context.{Context}

@@ -3,22 +3,22 @@
 use mathlib.Core.Path.{_≡_, refl, sym, ap, _∙_}
 use mathlib.Core.Bool.{Bool, true, false, cond, not, _&&_, false≢true}
 use mathlib.Core.List.{List, [], _∷_, _++_}
-use mathlib.Core.Logic.{_⊎_, inl, inr, ⊎-elim}
+use mathlib.Core.Logic.{_⊎_, ⊎-elim}
 use Prim.Native.Nat.{ℕ, _+_, _≤_, _<_}
 use native.Mathlib.Omega.{arith}
 use lib.Dec.{eqb}
-use lib.ListN.{drop, take}
+use lib.ListN.{drop}
 use borrow.Author.Tests.{eq-eqb, ne-eqb}
 use Rattle.model.specs.declared.Task.{Task}
 use Rattle.model.specs.declared.State.{State}
 use Rattle.model.specs.Row.{row}
 use Rattle.model.specs.DataQueue.{queueRow}
-use Rattle.model.specs.Task.{aSend, aReceive, rowOf, settled}
-use Rattle.model.specs.State.{task, time, capacityOf, takenOf, moved}
+use Rattle.model.specs.Task.{aSend, aReceive, rowOf}
+use Rattle.model.specs.State.{task, capacityOf, takenOf, moved}
 use Rattle.model.specs.Sound.{Sound}
 use Rattle.model.specs.Bench.{listing}
 use Rattle.laws.proofs.Number.{same?}
-use Rattle.laws.proofs.Record.{queue-row, row-queue}
+use Rattle.laws.proofs.Record.{queue-row}
 use Rattle.soundness.proofs.Moved.{task-moved, task-kept}
 use Rattle.soundness.proofs.Told.{waiter-in, first-waits, no-waiter}
 use Rattle.ways.proofs.Done.{firstAt, Side}
@@ -27,7 +27,7 @@ use Rattle.order.specs.Ledger.{waitsFor, pairs, senders, receivers, hand
 use Rattle.order.specs.Statements.{storedIn}
 use Rattle.order.proofs.Lists.{or-true, and-none, tasks-keeping, once-rest, once-staying, has-staying, keeping-same, keeping-append}
 use Rattle.order.proofs.Entries.{handed-none}
-use Rattle.order.proofs.Listing.{tasks-paired, paired-same, keeping-paired, staying-all, others, listing-none, listing-some, listing-tasks}
+use Rattle.order.proofs.Listing.{tasks-paired, paired-same, keeping-paired, staying-all, others, listing-some, listing-tasks}
 use Rattle.order.proofs.Moving.{queue, asks, Good, sound-good, Shrinks, once-queue, absent, queue-left, pairs-joined}
 
 -- ---- parts of parts

@@ -4,7 +4,6 @@ use mathlib.Core.Bool.{Bool, true, false, cond, not, _&&_}
 use mathlib.Core.List.{List, [], _∷_, _++_}
 use Prim.Native.Nat.{ℕ}
 use lib.Dec.{eqb}
-use lib.IntN.{ℤ, pos, negsuc}
 use Rattle.model.specs.declared.State.{State}
 use Rattle.model.specs.declared.Answer.{Answer}
 use Rattle.model.specs.declared.Context.{Context}
@@ -16,7 +15,7 @@ use Rattle.model.specs.Code.{number, isNegative}
 use Rattle.model.specs.Bench.{listing}
 use Rattle.ways.specs.Entry.{Entry, creation, deletion, release, acquisition, poll, opening, closing, receiving, sending, none, entry}
 use Rattle.turns.specs.Tally.{Kernel, isZero}
-use Rattle.order.specs.Lists.{has, staying, tasks, elements, paired, keeping}
+use Rattle.order.specs.Lists.{has, staying, tasks, paired, keeping}
 
 -- ---- who waits on data queue q, first to last
 abbrev pub waitsFor : State → ℕ → ℕ → Bool

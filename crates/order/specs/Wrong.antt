@@ -1,7 +1,7 @@
 -- Two kernels that lose the order: each is `step` of model, wrong in the one way that its name says.
 -- proofs/Refuted shows that InOrder is false of both.
-use mathlib.Core.Bool.{Bool, cond, not, _&&_}
-use mathlib.Core.List.{List, _++_, reverse}
+use mathlib.Core.Bool.{cond}
+use mathlib.Core.List.{_++_, reverse}
 use Prim.Native.Nat.{ℕ, _+_}
 use lib.Dec.{eqb}
 use lib.ListN.{length, drop}

@@ -1,6 +1,6 @@
 -- A step over lent tables, from what its parts say: who runs, the records looked at, the plan, and its effect.
 -- Rests on the definitions of model/specs/Call alone.
-use mathlib.Core.Path.{_≡_, refl, sym, ap, _∙_}
+use mathlib.Core.Path.{_≡_, sym, ap, _∙_}
 use mathlib.Core.Bool.{Bool, true, false, not}
 use Prim.Native.Nat.{ℕ}
 use borrow.Author.Tests.{not-true, not-false}
