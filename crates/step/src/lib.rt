@@ -76,15 +76,14 @@ fn queue_in(
         queue,
         service,
     );
-    let code = p.code;
-    let value = p.value;
-    let effect = p.effect;
-    carry::queue::carry_queue(bytes, words, levels, waits, numbers, effect);
-    let running = best(levels);
+    let answered = p.code;
+    let given = p.value;
+    let change = p.effect;
+    carry::queue::carry_queue(bytes, words, levels, waits, numbers, change);
     Stepped {
-        code,
-        running,
-        value,
+        code: answered,
+        running: best(levels),
+        value: given,
     }
 }
 
