@@ -1,5 +1,7 @@
 // The text of an answer's rows. A code is a number from 0 to 13, a row without its call's number is kept as one byte;
 // a row's length is known before it is written, and a row without room is not. Rests on text.
+#![tactic(auto)]
+
 ghost use Rattle.std.specs.Prelude.{◌≡◌, ◌+◌, ◌≤◌, leb, length};
 ghost use Rattle.std.proofs.lemmas.List.Edits.{sets};
 ghost use Rattle.text.specs.Bytes.{put, place_after};

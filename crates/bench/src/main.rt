@@ -1,5 +1,7 @@
 // The bench cases that are run: case 4, whose wait ends at tick 65,535 and is not computed, and case 13, where a first that sleeps leaves
 // the next its whole slice. Each goes through the public call; what it prints is compared with the file beside src/. Rests on the kernel.
+#![tactic(auto)]
+
 use libc::STDOUT_FILENO;
 use model::{Call, Context, State};
 

@@ -1,5 +1,7 @@
 // The border to other languages: which context and code a plain number stands for, and a call by numbers alone.
 // A number that names nothing is WRONG_PARAM; a number that the service does not take is not looked at. Rests on services and the kernel.
+#![tactic(auto)]
+
 ghost use Rattle.std.specs.Prelude.{◌≡◌};
 ghost use Rattle.model.specs.Code.{number};
 ghost use Rattle.border.specs.Border.{context_of, place_of, meant, reply};

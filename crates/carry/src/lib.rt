@@ -1,5 +1,7 @@
 // An effect carried out on the five tables, changed where they lie.
 // Every arm is a definition of model/specs/Effect, for every value; who runs is told, so that nobody looks twice.
+#![tactic(auto)]
+
 ghost use Rattle.std.specs.Prelude.{◌≡◌};
 ghost use Rattle.model.specs.Effect.{stopped, ticked_from, carried_from};
 ghost use Rattle.tables.specs.Lent.{before, after};

@@ -1,5 +1,7 @@
 // What every service's plan begins with: the ranges of a call's numbers, the order of checks, and the plans that refuse and accept.
 // Each function is a definition of model/specs/Plan or of specs/Gate, for every value; it rests on model, and on records for the timeout that never ends.
+#![tactic(auto)]
+
 ghost use Rattle.std.specs.Prelude.{◌≡◌};
 ghost use Rattle.model.specs.declared.Code.TheVariants.{Pending};
 ghost use Rattle.model.specs.declared.Effect.TheVariants.{Moves, Counts, Flags};

@@ -1,5 +1,7 @@
 // The test of a table of queues by crossing off, which looks at each place once and at the first 0 of a row twice.
 // Each function is a definition of specs/Crossing, for every value; it rests on model alone.
+#![tactic(auto)]
+
 ghost use Rattle.std.specs.Prelude.{◌≡◌, length, drop};
 ghost use Rattle.model.specs.Test.{zeros, is_listed};
 ghost use Rattle.crossing.specs.Crossing.{crosses, crossed, crosses_all, row_end};

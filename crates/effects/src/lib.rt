@@ -1,5 +1,7 @@
 // What an effect does to the five tables, changed where they lie: a move, a charged tick, the timeouts of a tick, the news to
 // those in a queue. Every contract says which state the tables then stand for.
+#![tactic(auto)]
+
 ghost use Rattle.std.specs.Prelude.{◌≡◌, cond, eqb, length};
 ghost use Rattle.model.specs.Row.{second_of};
 ghost use Rattle.model.specs.Task.{ran_out};

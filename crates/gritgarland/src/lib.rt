@@ -1,5 +1,7 @@
 // Every entry that callers in other languages have, each a thin relay with the promise of what it relays.
 // include/gritgarland.h declares them. Rests on the border, the test of soundness, the runner and, for what a refusal leaves, soundness.
+#![tactic(auto)]
+
 ghost use Rattle.std.specs.Prelude.{◌≡◌, true, length};
 ghost use Rattle.model.specs.Code.{is_negative, wait_number};
 ghost use Rattle.model.specs.Test.{is_sound};

@@ -1,5 +1,7 @@
 // The checked call: it takes and gives a state by value, and tests it before it steps. Beside it the fresh state, and who runs.
 // Rests on the step and on the test of soundness.
+#![tactic(auto)]
+
 ghost use Rattle.std.specs.Prelude.{◌≡◌};
 ghost use Rattle.model.specs.State.{fresh, running};
 ghost use Rattle.model.specs.Call.{call};

@@ -1,5 +1,7 @@
 // One table of numbers, read and changed where it lies: each part has a function that reads it and one that changes it.
 // A place past the part's end reads as 0, and a store there changes nothing. Rests on specs/Numbers, which says where each part lies.
+#![tactic(auto)]
+
 ghost use Rattle.std.specs.Prelude.{◌≡◌, get_or, set};
 ghost use Rattle.numbers.specs.Numbers.{part, stored, held_in};
 ghost use Rattle.model.specs.State.{noted, of_slices, of_counts, of_maxima, of_attributes, of_bits, of_time, of_capacities, of_taken};

@@ -1,5 +1,7 @@
 // Every call's plan on the tables: each arm looks at what its service asks for, and at nothing else.
 // It is `planned_from` of model/specs/Call, for every value; it rests on plans_task, plans_semaphore, plans_flag and plans_queue.
+#![tactic(auto)]
+
 ghost use Rattle.std.specs.Prelude.{◌≡◌, cond, not};
 ghost use Rattle.model.specs.declared.Context.TheVariants.{T, I};
 ghost use Rattle.model.specs.declared.Call.TheVariants.{OnFlag};

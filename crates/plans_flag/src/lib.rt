@@ -1,5 +1,7 @@
 // The plans of the services on event flags, and the dispatch over them; the poll has a file of its own, where an edit can name its lines.
 // Each function is a definition of model/specs/Service or Call, for every value; it rests on checks and records.
+#![tactic(auto)]
+
 ghost use Rattle.std.specs.Prelude.{◌≡◌};
 ghost use Rattle.model.specs.Flag.{is_single, with_bits, without_bits, bits_left};
 ghost use Rattle.model.specs.Service.{flag_create, flag_delete, meets_first, flag_set, flag_clear, is_occupied, taken, flag_wait};

@@ -1,5 +1,7 @@
 // The plans of the services on data queues, and the dispatch over them.
 // Each function is a definition of model/specs/Service or Call, for every value; it rests on checks and records.
+#![tactic(auto)]
+
 ghost use Rattle.std.specs.Prelude.{◌≡◌};
 ghost use Rattle.model.specs.Service.{queue_create, queue_delete, is_side, has_room, sent, queue_send, queue_send_poll, received, queue_receive, queue_receive_poll};
 ghost use Rattle.model.specs.Call.{queue_plan};

@@ -1,5 +1,7 @@
 // The plans of the services on semaphores.
 // Each function is a definition of model/specs/Service, for every value; it rests on checks and records.
+#![tactic(auto)]
+
 ghost use Rattle.std.specs.Prelude.{◌≡◌};
 ghost use Rattle.model.specs.Service.{sem_create, sem_delete, signal, acquire, polling};
 

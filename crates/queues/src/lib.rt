@@ -1,5 +1,7 @@
 // Queues by value, as a caller holds them, and the flat table of rows that is lent inside: one goes into the other and comes out.
 // Each function is a definition of specs/Queues, for every value; it rests on model and on the rows of rows.
+#![tactic(auto)]
+
 ghost use Rattle.std.specs.Prelude.{◌≡◌, ◌+◌, ◌*◌, ◌≤◌, length};
 ghost use Rattle.std.proofs.lemmas.List.Edits.{sets};
 ghost use Rattle.model.specs.Row.{as_queue};

@@ -1,5 +1,7 @@
 // One task's record: which queues list it, the records that calls make of it, and how its last wait ended.
 // Each function is a definition of model/specs/Task, for every value; it rests on model and, for a sign, on a law of laws.
+#![tactic(auto)]
+
 ghost use Rattle.std.specs.Prelude.{◌≡◌, cond, not, ◌&&◌, eqb};
 ghost use Rattle.model.specs.Code.{wait_number};
 ghost use Rattle.model.specs.Flag.{is_met, flag_row};

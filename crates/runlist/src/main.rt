@@ -1,5 +1,7 @@
 // A list of calls on standard input, its answer on standard output; on a refusal the editor's number alone and CRLF.
 // It reads one byte more than a file may have, so as to see the difference. Rests on the runner and the printer of numbers.
+#![tactic(auto)]
+
 use libc::{STDIN_FILENO, STDOUT_FILENO};
 use text::decimals::put_decimal;
 use text::words::put_byte;

@@ -1,5 +1,7 @@
 // The runner: a file of calls and an answer buffer in, one number out. Every call is worked once, its code and running task are kept
 // in one byte, and the answer is written only when all lines were read and all of it fits. Rests on the line reader and the step.
+#![tactic(auto)]
+
 ghost use Rattle.std.specs.Prelude.{◌≡◌, ◌+◌, ◌<◌, ◌≤◌, ◌++◌, length};
 ghost use Rattle.std.proofs.lemmas.List.Edits.{sets};
 ghost use Rattle.text.specs.Bytes.{bytes};

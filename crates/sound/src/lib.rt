@@ -2,6 +2,8 @@
 // its level; docs/ARCHITECTURE.md counts how often each place is looked at.
 // Each function is a definition of model/specs/Test, for every value; it rests on sound_parts for single places, on crossing for
 // queues, and on the tables that it is lent.
+#![tactic(auto)]
+
 ghost use Rattle.std.specs.Prelude.{◌≡◌, [], drop};
 ghost use Rattle.model.specs.DataQueue.{places_of};
 ghost use Rattle.model.specs.Test.{below, zeros, is_unserved_in, is_origin, is_sound};

@@ -1,5 +1,7 @@
 // The step of every call: the plan from the records it looks at, then its effect on the tables. It stands once, over lent tables,
 // for a caller that knows its state to be sound.
+#![tactic(auto)]
+
 ghost use Rattle.std.specs.Prelude.{◌≡◌};
 ghost use Rattle.model.specs.declared.Call.TheVariants.{TickIntProcessing, OnQueue};
 ghost use Rattle.model.specs.Call.{step_from};

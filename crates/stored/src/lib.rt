@@ -1,5 +1,7 @@
 // The records of all tasks in two tables of plain numbers, twelve bytes for each and five words, read and changed where they lie.
 // A table of records can't be lent, these can. Each function is a definition of specs/Stored; it rests on the records.
+#![tactic(auto)]
+
 ghost use Rattle.std.specs.Prelude.{◌≡◌, ◌<◌, get_or, set, length};
 ghost use Rattle.model.specs.Task.{no_task, with_remaining, with_marks};
 ghost use Rattle.stored.specs.Stored.{record_at, HasTwelve, HasFive, with_own, with_waits, words_with, tasks_of};

@@ -1,5 +1,7 @@
 // A state as five tables that can be lent: it goes into them and comes out of them, and what a call looks at is read off them.
 // Each contract names the state that the tables stand for (specs/Lent); it rests on stored, queues and numbers.
+#![tactic(auto)]
+
 ghost use Rattle.std.specs.Prelude.{◌≡◌};
 ghost use Rattle.model.specs.DataQueue.{queue_row};
 ghost use Rattle.model.specs.Flag.{flag_row};

@@ -1,5 +1,7 @@
 // One line of a list, played: read where it begins, stepped on the five tables. Whoever walks a list calls this in a loop and keeps
 // what its tool is for; Walking in proofs/ says of such a loop what was done and what is left.
+#![tactic(auto)]
+
 ghost use Rattle.std.specs.Prelude.{◌≡◌, drop};
 ghost use Rattle.lines.specs.Lines.{line_of};
 ghost use Rattle.tables.specs.Lent.{before, after};
