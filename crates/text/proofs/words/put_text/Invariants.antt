@@ -1,0 +1,16 @@
+-- What the loop of `text::words::put_text` keeps, and what falls.
+use Prim.Native.Nat.{◌+◌, ◌≤◌, ◌-◌}
+use mathlib.Core.Path.{◌≡◌, refl, sym, ◌∙◌}
+use native.Mathlib.Nat.{add-zero}
+use native.Mathlib.Omega.{arith}
+use lib.ListN.{length, drop, length-set}
+use lib.Seq.{sets}
+use Rattle.text.proofs.Stores.{sets_next, sets_done, room, put_room, after_room, put_none, after_none}
+use borrow.Author.Rules.{rules}
+use Rattle.text.proofs.words.put_text.Given as goal
+
+abbrev pub invariant-loop-i : goal.invariant-loop-i
+invariant-loop-i l = (l.at + length l.t ≤ length l.initial.buf) × (length l.buf ≡ length l.initial.buf) × (l.i ≤ length l.t) × (sets l.buf (l.at + l.i) (drop l.i l.t) ≡ sets l.initial.buf l.at l.t)
+
+abbrev pub decreases-loop-i : goal.decreases-loop-i
+decreases-loop-i l = length l.t - l.i
