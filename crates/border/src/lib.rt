@@ -12,7 +12,7 @@ use services::calls::{Asked, call_of};
 // A call's answer in plain numbers: the paper's code, the task that then runs, the bits or the element that a wait or poll got at once or the
 // ticks that were asked for, the next state.
 #[repr(C)]
-#[derive(Drop)]
+#[derive(Clone, Copy)]
 pub struct Reply {
     pub code: i32,
     pub running: u32,
@@ -20,7 +20,7 @@ pub struct Reply {
     pub state: State,
 }
 
-#[derive(Drop)]
+#[derive(Clone, Copy)]
 pub enum From {
     Known(Context),
     Nowhere,

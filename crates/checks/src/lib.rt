@@ -78,7 +78,7 @@ pub fn is_attributes(n: u32) -> bool
 
 // ---- the order of checks
 // What the checks that every call has in common come to.
-#[derive(Drop)]
+#[derive(Clone, Copy)]
 pub enum Gate {
     Passes,
     Refuses { code: Code },

@@ -14,7 +14,7 @@ use model::State;
 
 // A reply without its state, which stays where it was lent.
 #[repr(C)]
-#[derive(Drop)]
+#[derive(Clone, Copy)]
 pub struct Report {
     pub code: i32,
     pub running: u32,

@@ -9,7 +9,7 @@ use text::number::{Number, read_number};
 use text::words::{begins, byte_at};
 
 // What a field says, with its length: a number, the endless wait, or neither.
-#[derive(Drop)]
+#[derive(Clone, Copy)]
 pub enum Said {
     Says { value: u32, next: usize },
     Forever { next: usize },
@@ -17,21 +17,21 @@ pub enum Said {
 }
 
 // The length of a line end, or no line end.
-#[derive(Drop)]
+#[derive(Clone, Copy)]
 pub enum End {
     Closes { next: usize },
     NoEnd,
 }
 
 // The last two numbers with their length, line end included.
-#[derive(Drop)]
+#[derive(Clone, Copy)]
 pub enum Tail {
     Two { c: u32, d: u32, next: usize },
     NoTail,
 }
 
 // The four numbers with their length, line end included.
-#[derive(Drop)]
+#[derive(Clone, Copy)]
 pub enum Fields {
     Four {
         a: u32,

@@ -10,14 +10,14 @@ use services::names::{Name, read_name};
 use text::words::begins;
 
 // The context that a line's first letter names.
-#[derive(Drop)]
+#[derive(Clone, Copy)]
 pub enum Letter {
     Is { context: Context },
     NoLetter,
 }
 
 // A call in its context with the length of its line, line end included, or no readable line.
-#[derive(Drop)]
+#[derive(Clone, Copy)]
 pub enum Line {
     Reads {
         context: Context,
@@ -28,7 +28,7 @@ pub enum Line {
 }
 
 // Whether the lines are wide, of six fields and not five, and the length of the header line, line end included.
-#[derive(Drop)]
+#[derive(Clone, Copy)]
 pub enum Header {
     Ends { wide: bool, next: usize },
     NoHeader,

@@ -14,7 +14,7 @@ use lines::line::{Header, Line, read_header, read_line};
 use text::words::put_text;
 
 // What became of a file: the bytes written, or why it was refused.
-#[derive(Drop)]
+#[derive(Clone, Copy)]
 pub enum Ran {
     Wrote(usize),
     TooLong,
@@ -26,7 +26,7 @@ pub enum Ran {
 pub type Kept = [u8; 3639];
 
 // What playing a list leaves beside the kept rows: the first line that can't be read, or 0; how many calls; the answer's length.
-#[derive(Drop)]
+#[derive(Clone, Copy)]
 pub struct Played {
     pub fault: usize,
     pub count: usize,

@@ -6,7 +6,7 @@ ghost use Rattle.services.specs.Calls.{asked};
 use model::{Call, FlagService, QueueService};
 
 // The call that numbers ask for, or nothing where they name no service.
-#[derive(Drop)]
+#[derive(Clone, Copy)]
 pub enum Asked {
     Named(Call),
     Nothing,

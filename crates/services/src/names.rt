@@ -7,7 +7,7 @@ ghost use Rattle.services.specs.Names.{labelled, name_in, name_of};
 use text::words::{begins, byte_at};
 
 // A service by its number in the table, and the length of its name with the comma.
-#[derive(Drop)]
+#[derive(Clone, Copy)]
 pub enum Name {
     Known { number: u32, next: usize },
     Unknown,

@@ -4,7 +4,7 @@ ghost use Rattle.std.specs.Prelude.{◌≡◌};
 ghost use Rattle.services.specs.Takes.{takes_at};
 
 // Nothing, so that the field is blank; a number; or a timeout, which may also be the endless wait.
-#[derive(Drop)]
+#[derive(Clone, Copy)]
 pub enum Takes {
     Blank,
     Plain,

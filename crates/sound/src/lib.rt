@@ -43,7 +43,7 @@ fn is_unserved_in(
 
 // What a walk over the records sees: whether each is sound, whether its charge is, whether no wait on a flag is met already and none on a
 // data queue could be served, and which level and which row list each task.
-#[derive(Drop)]
+#[derive(Clone, Copy)]
 struct Seen {
     sound: bool,
     charges: bool,

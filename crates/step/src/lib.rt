@@ -15,7 +15,7 @@ use queues::{Levels, Waits};
 use stored::{Bytes, Words};
 
 // What a step answers, beside the tables it was lent.
-#[derive(Drop)]
+#[derive(Clone, Copy)]
 pub struct Stepped {
     pub code: Code,
     pub running: u8,

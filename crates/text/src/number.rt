@@ -4,7 +4,7 @@ ghost use Rattle.std.specs.Prelude.{◌≡◌};
 ghost use Rattle.text.specs.Number.{numeral, number_of};
 
 // A number with the count of its digits, or nothing that is a number.
-#[derive(Drop)]
+#[derive(Clone, Copy)]
 pub enum Number {
     Digits { value: u32, next: usize },
     NoNumber,

@@ -14,7 +14,7 @@ use step::Stepped;
 use stored::{Bytes, Words};
 
 // A line that reads: its answer, and where the next line begins.
-#[derive(Drop)]
+#[derive(Clone, Copy)]
 pub enum Turn {
     Plays { answer: Stepped, next: usize },
     Faults,

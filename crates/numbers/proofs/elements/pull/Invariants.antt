@@ -1,0 +1,16 @@
+-- What the loop of `numbers::elements::pull` keeps, and what falls.
+use mathlib.Core.Path.{◌≡◌, refl, sym, ◌∙◌}
+use Prim.Native.Nat.{◌<◌, ◌-◌}
+use native.Mathlib.Omega.{arith}
+use lib.ListN.{length, length-set}
+use Rattle.model.specs.Row.{gap}
+use Rattle.model.specs.DataQueue.{pulled}
+use Rattle.laws.proofs.Row.{gap_last, gap_on}
+use borrow.Author.Rules.{rules}
+use Rattle.numbers.proofs.elements.pull.Given as goal
+
+abbrev pub invariant-loop-i : goal.invariant-loop-i
+invariant-loop-i l = (length l.ps ≡ length l.initial.ps) × (l.i < length l.initial.ps) × (gap l.ps l.i ≡ gap l.initial.ps 0)
+
+abbrev pub decreases-loop-i : goal.decreases-loop-i
+decreases-loop-i l = length l.initial.ps - l.i

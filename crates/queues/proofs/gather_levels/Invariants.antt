@@ -1,0 +1,16 @@
+-- What the loop of `queues::gather_levels` keeps, and what falls.
+use Prim.Native.Nat.{◌≤◌, ◌-◌}
+use mathlib.Core.Path.{◌≡◌, refl, sym, ◌∙◌}
+use borrow.Author.Rules.{rules}
+use native.Mathlib.Omega.{arith}
+use lib.ListN.{length, length-set, take}
+use Rattle.queues.specs.Queues.{queues_of}
+use Rattle.queues.proofs.Bridge as bridge
+use Rattle.queues.proofs.Copied as law
+use Rattle.queues.proofs.gather_levels.Given as goal
+
+abbrev pub invariant-loop-l : goal.invariant-loop-l
+invariant-loop-l l = (l.l ≤ 31) × (length l.f ≡ 744) × (length l.r ≡ 31) × (take l.l l.r ≡ take l.l (queues_of 31 l.f))
+
+abbrev pub decreases-loop-l : goal.decreases-loop-l
+decreases-loop-l l = 31 - l.l

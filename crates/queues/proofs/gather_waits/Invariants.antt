@@ -1,0 +1,16 @@
+-- What the loop of `queues::gather_waits` keeps, and what falls.
+use Prim.Native.Nat.{◌≤◌, ◌-◌, ◌*◌}
+use mathlib.Core.Path.{◌≡◌, refl, sym, ◌∙◌}
+use borrow.Author.Rules.{rules}
+use native.Mathlib.Omega.{arith}
+use lib.ListN.{length, length-set, take}
+use Rattle.queues.specs.Queues.{wait_rows, waits_of}
+use Rattle.queues.proofs.Bridge as bridge
+use Rattle.queues.proofs.Copied as law
+use Rattle.queues.proofs.gather_waits.Given as goal
+
+abbrev pub invariant-loop-l : goal.invariant-loop-l
+invariant-loop-l l = (l.l ≤ wait_rows) × (length l.f ≡ wait_rows * 24) × (length l.r ≡ wait_rows) × (take l.l l.r ≡ take l.l (waits_of l.f))
+
+abbrev pub decreases-loop-l : goal.decreases-loop-l
+decreases-loop-l l = wait_rows - l.l

@@ -1,0 +1,6 @@
+-- `records::dormant` meets its contract: its wait is no wait.
+use borrow.Author.Rules.{rules}
+use Rattle.records.proofs.dormant.Goals as goal
+
+pub returns : goal.returns
+returns c = rw c.no_wait-none.ensures

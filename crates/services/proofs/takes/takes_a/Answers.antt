@@ -1,0 +1,34 @@
+-- `services::takes::takes_a` meets its contract: number by number, the rest a number each.
+-- It rests on the table, and on the tests that antt computes over it.
+use native.Mathlib.Omega.{arith}
+use mathlib.Core.Path.{sym}
+use mathlib.Core.List.{[], ◌∷◌}
+use Rattle.services.specs.declared.takes.Takes.TheVariants.{Plain}
+use Rattle.model.proofs.Words.{table}
+use Rattle.services.specs.Takes.{takes_in, takes_at}
+use Rattle.services.proofs.Numbers.{has, below}
+use Rattle.services.proofs.Taken.{past_table, others_take}
+use Rattle.services.proofs.takes.takes_a.Goals as goal
+
+pub returns-then-number-gt41 : goal.returns-then-number-gt41
+returns-then-number-gt41 c = sym (past_table _ 0 (omega (arith, c.if-number-gt41.true)))
+
+pub returns-in-0 : goal.returns-in-0
+unfolding takes_at takes_in table
+returns-in-0 c = rw c.in-0.is
+
+pub returns-in-5 : goal.returns-in-5
+unfolding takes_at takes_in table
+returns-in-5 c = rw c.in-5.is
+
+pub returns-in-9 : goal.returns-in-9
+unfolding takes_at takes_in table
+returns-in-9 c = rw c.in-9.is
+
+pub returns-in-16 : goal.returns-in-16
+unfolding takes_at takes_in table
+returns-in-16 c = rw c.in-16.is
+
+pub returns-in_default : goal.returns-in_default
+unfolding takes_at takes_in table has below
+returns-in_default c = sym (others_take (0 ∷ 5 ∷ 9 ∷ 16 ∷ []) 0 Plain tt _ c.in_default.in_default-own.rest (omega (arith, c.if-number-gt41.false)))

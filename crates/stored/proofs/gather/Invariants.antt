@@ -1,0 +1,15 @@
+-- What the loop of `stored::gather` keeps, and what falls.
+use Prim.Native.Nat.{◌≤◌, ◌-◌}
+use mathlib.Core.Path.{◌≡◌, refl}
+use borrow.Author.Rules.{rules}
+use native.Mathlib.Omega.{arith}
+use lib.ListN.{length, length-set, take}
+use Rattle.stored.specs.Stored.{tasks_of}
+use Rattle.stored.proofs.Laws as law
+use Rattle.stored.proofs.gather.Given as goal
+
+abbrev pub invariant-loop-t : goal.invariant-loop-t
+invariant-loop-t l = (l.t ≤ 25) × (length l.r ≡ 25) × (take l.t l.r ≡ take l.t (tasks_of l.bytes l.words))
+
+abbrev pub decreases-loop-t : goal.decreases-loop-t
+decreases-loop-t l = 25 - l.t
