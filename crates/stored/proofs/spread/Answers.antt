@@ -14,10 +14,10 @@ loop-t-init c = (omega arith, refl)
 pub loop-t-preserved : goal.loop-t-preserved
 loop-t-preserved c =
     let l = c.loop-t in
-    let n : length c.args.t3 ≡ 25 = search rules in
+    let n : length c.args.tasks ≡ 25 = search rules in
     (omega arith, rw c.put_record.ensures (law.fills _ _ _ _ (law.length_tasks _ _) n c.loop-t-test.true refl l.invariant.1))
 
 pub returns : goal.returns
 returns c =
-    let n : length c.args.t3 ≡ 25 = search rules in
+    let n : length c.args.tasks ≡ 25 = search rules in
     law.full _ _ _ (law.length_tasks _ _) n c.loop-t-test.false c.loop-t.invariant.1

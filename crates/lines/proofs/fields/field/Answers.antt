@@ -10,6 +10,7 @@ use Rattle.services.specs.declared.takes.Takes.TheVariants.{Blank, Plain, Timeou
 use Rattle.services.specs.contracts.takes.Takes as takes
 use Rattle.lines.specs.Fields.{said_of, meant, field_of}
 use borrow.Author.Rules.{rules}
+use borrow.Enum.Refused.{opened}
 use Rattle.lines.proofs.fields.field.Goals as goal
 
 -- of the other two kinds
@@ -22,7 +23,7 @@ by_meaning Timeout s e = refl
 pub returns-in_default : goal.returns-in_default
 returns-in_default c =
     let a = c.args in
-    c.meant.ensures ∙ ap (λ t. meant t a.takes) c.read_field.ensures ∙ by_meaning a.takes a.s.now c.in_default.in_default-own.keys2
+    c.meant.ensures ∙ ap (λ t. meant t a.takes) c.read_field.ensures ∙ by_meaning a.takes a.s.now (opened c.in_default.in_default-own.keys2)
 
 pub returns : goal.returns
 unfolding field_of

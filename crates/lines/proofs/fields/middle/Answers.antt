@@ -12,6 +12,7 @@ use Rattle.lines.specs.Fields.{comma_field, zero_if_blank, middle_of}
 use Rattle.text.proofs.Reading.{got}
 use Rattle.lines.proofs.Within.{by_table}
 use borrow.Author.Rules.{rules}
+use borrow.Enum.Refused.{opened}
 use Rattle.lines.proofs.fields.middle.Goals as goal
 
 -- of the other two kinds
@@ -26,7 +27,7 @@ returns-then-wide c = rw c.if-wide.true (by_table comma_field c.args.s.now c.tak
 
 pub returns-in_default : goal.returns-in_default
 unfolding middle_of
-returns-in_default c = rw (c.if-wide.false, ← c.takes_at-2.ensures) (not_blank c.takes_at-2.result c.in_default.in_default-own.keys2)
+returns-in_default c = rw (c.if-wide.false, ← c.takes_at-2.ensures) (not_blank c.takes_at-2.result (opened c.in_default.in_default-own.keys2))
 
 pub returns : goal.returns
 unfolding middle_of

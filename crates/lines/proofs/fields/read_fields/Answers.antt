@@ -23,22 +23,23 @@ e1 c = got (by_table comma_field c.args.s.now c.takes_at.ensures c.comma_field.e
 in1 : (c : In-Digits) → c.in-Digits.i ≤ length c.args.s.now
 in1 c = let a = c.args in rw (e1 c) at (comma_in (takes_at a.number 0) a.s.now)
 
-e2 : (c : In-Digits-comma_field) → let d = c.before.before.before.before.before.before in let a = d.args in
-    comma_field (takes_at a.number 1) (drop d.in-Digits.i a.s.now) ≡ Digits c.in-Digits-comma_field.b c.in-Digits-comma_field.j
+e2 : (c : In-Digits-comma_field) → let a = c.args in
+    comma_field (takes_at a.number 1) (drop c.in-Digits.i a.s.now) ≡ Digits c.in-Digits-comma_field.b c.in-Digits-comma_field.j
 e2 c =
     let a = c.args in
     got (by_table comma_field (drop c.in-Digits.i a.s.now) c.takes_at-2.ensures (part_of (comma_field _) a.s.now c.in-Digits.i c.comma_field-2.ensures)) c.in-Digits-comma_field.is
 
-in2 : (c : In-Digits-comma_field) → let d = c.before.before.before.before.before.before in d.in-Digits.i + c.in-Digits-comma_field.j ≤ length d.args.s.now
+in2 : (c : In-Digits-comma_field) → c.in-Digits.i + c.in-Digits-comma_field.j ≤ length c.args.s.now
 in2 c =
-    let d = c.before.before.before.before.before.before in let a = d.args in
-    after a.s.now d.in-Digits.i c.in-Digits-comma_field.j (in1 d) (rw (e2 c) at (comma_in (takes_at a.number 1) (drop d.in-Digits.i a.s.now)))
+    let a = c.args in
+    let first = got (by_table comma_field a.s.now c.takes_at.ensures c.comma_field.ensures) c.in-Digits.is in
+    after a.s.now c.in-Digits.i c.in-Digits-comma_field.j (rw first at (comma_in (takes_at a.number 0) a.s.now)) (rw (e2 c) at (comma_in (takes_at a.number 1) (drop c.in-Digits.i a.s.now)))
 
-e3 : (c : In-Two) → let e = c.before.before.before.before.before in let d = e.before.before.before.before.before.before in let a = d.args in
-    tail_of a.wide a.number (drop (d.in-Digits.i + e.in-Digits-comma_field.j) a.s.now) ≡ Two c.in-Two.c c.in-Two.d c.in-Two.k
+e3 : (c : In-Two) → let a = c.args in
+    tail_of a.wide a.number (drop (c.in-Digits.i + c.in-Digits-comma_field.j) a.s.now) ≡ Two c.in-Two.c c.in-Two.d c.in-Two.k
 e3 c =
-    let e = c.before.before.before.before.before in let a = e.args in
-    got (part_of (tail_of a.wide a.number) a.s.now (e.in-Digits.i + e.in-Digits-comma_field.j) c.read_tail.ensures) c.in-Two.is
+    let a = c.args in
+    got (part_of (tail_of a.wide a.number) a.s.now (c.in-Digits.i + c.in-Digits-comma_field.j) c.read_tail.ensures) c.in-Two.is
 
 pub returns-in_default : goal.returns-in_default
 unfolding fields_of

@@ -33,10 +33,11 @@ e2 c = got (part_of name_of c.args.s.now 2 c.read_name.ensures) c.in-Known.is
 in2 : (c : In-Known) → 2 + c.in-Known.next ≤ length c.args.s.now
 in2 c =
     let s = c.args.s.now in
-    after s 2 c.in-Known.next (in1 c.before.before.before.before.before) (rw (e2 c) at (name_in_lem (drop 2 s)))
+    let letter = got c.read_letter.ensures c.in-Is.is in
+    after s 2 c.in-Known.next (rw letter at (letter_in s)) (rw (e2 c) at (name_in_lem (drop 2 s)))
 
-e3 : (c : In-Four) → let e = c.before.before.before.before.before in let w = c.args in
-    fields_of w.wide e.in-Known.number (drop (2 + e.in-Known.next) w.s.now)
+e3 : (c : In-Four) → let w = c.args in
+    fields_of w.wide c.in-Known.number (drop (2 + c.in-Known.next) w.s.now)
     ≡ Four c.in-Four.a c.in-Four.b c.in-Four.c c.in-Four.d c.in-Four.rest
 e3 c =
     let w = c.args in

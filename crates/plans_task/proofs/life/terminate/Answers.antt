@@ -1,0 +1,25 @@
+-- `plans_task::terminate` meets its contract: what every call has in common, then test by test.
+-- It rests on the contracts of what it calls, on the laws of the checks, and on those of tests.
+use Rattle.std.proofs.Common.{arith, rules, eq-eqb, ne_eqb}
+use Rattle.model.specs.Service.{terminate}
+use Rattle.checks.proofs.Laws.{refuses, passes, is_right, within-top}
+use Rattle.plans_task.proofs.life.terminate.Goals as goal
+
+pub returns-in-Refuses : goal.returns-in-Refuses
+unfolding terminate
+returns-in-Refuses c = rw (c.refused.ensures, ← c.is_task.ensures, refuses _ _ _ c.checked-gate.ensures c.in-Refuses.is)
+
+pub overflow_cast-t : goal.overflow_cast-t
+overflow_cast-t c = omega (arith, within-top _ _ _ c.is_task.ensures (is_right _ _ _ c.checked-gate.ensures c.in_default.is))
+
+pub returns-then-t-run : goal.returns-then-t-run
+unfolding terminate
+returns-then-t-run c = rw (c.refused-then-t-run.ensures, ← c.is_task.ensures, passes _ _ _ c.checked-gate.ensures c.in_default.is, eq-eqb _ _ c.if-t-run.true)
+
+pub returns-then-k-eq0 : goal.returns-then-k-eq0
+unfolding terminate
+returns-then-k-eq0 c = rw (c.refused-then-k-eq0.ensures, ← c.is_task.ensures, passes _ _ _ c.checked-gate.ensures c.in_default.is, ne_eqb _ _ c.if-t-run.false, eq-eqb _ _ c.if-k-eq0.true)
+
+pub returns : goal.returns
+unfolding terminate
+returns c = rw (c.does.ensures, ← c.is_task.ensures, passes _ _ _ c.checked-gate.ensures c.in_default.is, ne_eqb _ _ c.if-t-run.false, ne_eqb _ _ c.if-k-eq0.false)

@@ -1,0 +1,21 @@
+-- `plans_task::release_wait` meets its contract: what every call has in common, then test by test.
+-- It rests on the contracts of what it calls, on the laws of the checks, and on those of tests.
+use Rattle.std.proofs.Common.{arith, rules, eq-eqb, ne_eqb}
+use Rattle.model.specs.Service.{release_wait}
+use Rattle.checks.proofs.Laws.{refuses, passes, is_right, within-top}
+use Rattle.plans_task.proofs.waits.release_wait.Goals as goal
+
+pub returns-in-Refuses : goal.returns-in-Refuses
+unfolding release_wait
+returns-in-Refuses c = rw (c.refused.ensures, ← c.is_task.ensures, refuses _ _ _ c.checked-gate.ensures c.in-Refuses.is)
+
+pub returns-then-k-eq-NOTHING : goal.returns-then-k-eq-NOTHING
+unfolding release_wait
+returns-then-k-eq-NOTHING c = rw (c.refused-then-k-eq-NOTHING.ensures, ← c.is_task.ensures, passes _ _ _ c.checked-gate.ensures c.in_default.is, eq-eqb _ _ c.if-k-eq-NOTHING.true)
+
+pub overflow_cast-t : goal.overflow_cast-t
+overflow_cast-t c = omega (arith, within-top _ _ _ c.is_task.ensures (is_right _ _ _ c.checked-gate.ensures c.in_default.is))
+
+pub returns : goal.returns
+unfolding release_wait
+returns c = rw (c.moves.ensures, c.ended.ensures, ← c.is_task.ensures, passes _ _ _ c.checked-gate.ensures c.in_default.is, ne_eqb _ _ c.if-k-eq-NOTHING.false)
