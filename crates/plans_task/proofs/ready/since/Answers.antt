@@ -4,4 +4,4 @@ use Rattle.plans_task.proofs.Wrapping.{wraps}
 use Rattle.plans_task.proofs.ready.since.Goals as goal
 
 pub returns : goal.returns
-returns c = wraps _ _ _ (search rules) (search rules) c.wrapping_sub_u32.ensures
+returns c = wraps _ _ _ (search rules) (search rules) c.wrapping_sub_u32.ensures.value

@@ -7,11 +7,11 @@ use Rattle.plans_task.proofs.turns.tslice_ticks.Goals as goal
 
 pub returns-in-Refuses : goal.returns-in-Refuses
 unfolding tslice_ticks
-returns-in-Refuses c = rw (c.refused.ensures, ← c.is_priority.ensures, ← c.is_Slice.ensures, refuses _ _ _ c.checked-gate.ensures c.in-Refuses.is)
+returns-in-Refuses c = rw (c.refused.ensures, ← c.is_priority.ensures, ← c.is_slice.ensures, refuses _ _ _ c.checked-gate.ensures c.in-Refuses.is)
 
 pub overflow_cast-l : goal.overflow_cast-l
 overflow_cast-l c = omega (arith, within-top _ _ _ c.is_priority.ensures (and_left _ _ (is_right _ _ _ c.checked-gate.ensures c.in_default.is)))
 
 pub returns : goal.returns
 unfolding tslice_ticks
-returns c = rw (c.does.ensures, ← c.is_priority.ensures, ← c.is_Slice.ensures, passes _ _ _ c.checked-gate.ensures c.in_default.is)
+returns c = rw (c.does.ensures, ← c.is_priority.ensures, ← c.is_slice.ensures, passes _ _ _ c.checked-gate.ensures c.in_default.is)

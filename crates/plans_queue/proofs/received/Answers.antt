@@ -11,8 +11,7 @@ use Rattle.model.specs.declared.Effect.TheVariants.{Moves, Takes, Refills}
 use Rattle.model.specs.Task.{a_send, served, ended}
 use Rattle.model.specs.Plan.{gives}
 use Rattle.model.specs.Service.{is_side, received}
-use Rattle.plans_queue.proofs.received.Statement.{statement}
-use Rattle.plans_queue.proofs.received.Tie as tie
+use Rattle.plans_queue.proofs.received.Goals as goal
 
 module _ (q : ℕ) (z : DataQueue) (p : Plan) where
   hands : z.taken ≡ 0 → is_side a_send z ≡ true → gives z.waiter.wait.pattern (Moves z.first (ended z.waiter served 0)) ≡ received q z p
@@ -31,28 +30,14 @@ module _ (q : ℕ) (z : DataQueue) (p : Plan) where
   unfolding received
   takes n s = rw (ne_eqb z.taken 0 n, s)
 
-returns : tie.Need-returns
-returns c = let a = c.before.before.before.before.before.args in c.gives.ensures ∙ rw c.before.ended.ensures (hands a.queue a.z a.empty c.before.before.before.if1.true (sym c.before.before.before.before.is-side.ensures ∙ c.before.before.if2.true))
+pub returns-then-sends : goal.returns-then-sends
+returns-then-sends c = let a = c.args in c.gives.ensures ∙ rw c.ended-served.ensures (hands a.queue a.z a.empty c.if-taken-eq0.true (sym c.is_side-sends.ensures ∙ c.if-sends.true))
 
-returns-2 : tie.Need-returns-2
-returns-2 c = let a = c.before.before.before.args in nothing a.queue a.z a.empty c.before.if1.true (sym c.before.before.is-side.ensures ∙ c.if2.false)
+pub returns-then-taken-eq0 : goal.returns-then-taken-eq0
+returns-then-taken-eq0 c = let a = c.args in nothing a.queue a.z a.empty c.if-taken-eq0.true (sym c.is_side-sends.ensures ∙ c.if-sends.false)
 
-returns-3 : tie.Need-returns-3
-returns-3 c = let a = c.before.before.before.before.args in c.gives2.ensures ∙ refills a.queue a.z a.empty c.before.before.if1.false (sym c.before.before.before.is-side.ensures ∙ c.before.if3.true)
+pub returns-then-sends-2 : goal.returns-then-sends-2
+returns-then-sends-2 c = let a = c.args in c.gives-then-sends-2.ensures ∙ refills a.queue a.z a.empty c.if-taken-eq0.false (sym c.is_side-sends.ensures ∙ c.if-sends-2.true)
 
-returns-4 : tie.Need-returns-4
-returns-4 c = let a = c.before.before.before.before.args in c.gives3.ensures ∙ takes a.queue a.z a.empty c.before.before.if1.false (sym c.before.before.before.is-side.ensures ∙ c.before.if3.false)
-
-pub received-spec : {M : Type 1} → statement M
-received-spec =
-    tie.close
-    (tie.spec
-    (λ c κs. search rules)
-    (λ c κs. search rules)
-    (λ c κs. search rules)
-    returns
-    returns-2
-    (λ c κs. search rules)
-    returns-3
-    (λ c κs. search rules)
-    returns-4)
+pub returns : goal.returns
+returns c = let a = c.args in c.gives-2.ensures ∙ takes a.queue a.z a.empty c.if-taken-eq0.false (sym c.is_side-sends.ensures ∙ c.if-sends-2.false)

@@ -1,0 +1,18 @@
+-- `plans_queue::queue_send_poll` meets its contract: what every call has in common; its number fits once it is in range.
+-- It rests on the contracts of what it calls, and on the laws of the checks.
+use native.Mathlib.Omega.{arith}
+use Rattle.model.specs.Service.{queue_send_poll}
+use Rattle.checks.proofs.Laws.{refuses, passes, is_right, within-top}
+use borrow.Author.Rules.{rules}
+use Rattle.plans_queue.proofs.queue_send_poll.Goals as goal
+
+pub returns-in-Refuses : goal.returns-in-Refuses
+unfolding queue_send_poll
+returns-in-Refuses c = rw (c.refused.ensures, ← c.is_queue.ensures, refuses _ _ _ c.checked-gate.ensures c.in-Refuses.is)
+
+pub overflow_cast-q : goal.overflow_cast-q
+overflow_cast-q c = omega (arith, within-top _ _ _ c.is_queue.ensures (is_right _ _ _ c.checked-gate.ensures c.in_default.is))
+
+pub returns : goal.returns
+unfolding queue_send_poll
+returns c = rw (c.sent.ensures, c.refused-2.ensures, ← c.is_queue.ensures, passes _ _ _ c.checked-gate.ensures c.in_default.is)
