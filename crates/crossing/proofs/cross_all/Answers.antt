@@ -35,7 +35,7 @@ loop-l-preserved c =
     let l = c.loop-l in
     let a = c.args in
     let k = c.cross-crossed in (
-      k.auto.1.1.0 ∙ l.invariant.0,
+      k.auto.wants ∙ l.invariant.0,
       rw c.row_end-end.ensures (end_low a.ls.now l.at),
       omega arith,
       rw k.ensures.1 (l.invariant.3 ∙ row_crossed a.ls.now l.at a.n l.l l.rest _ c.row_end-end.ensures c.loop-l-test.true l.invariant.1 (sym k.ensures.0 ∙ not-false k.result c.if-not-crossed.false-raw)),

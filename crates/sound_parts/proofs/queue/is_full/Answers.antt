@@ -6,8 +6,7 @@ use native.Mathlib.Omega.{arith}
 use lib.Dec.{eqb}
 use borrow.Author.Tests.{eq-eqb, ne_eqb}
 use borrow.Author.Rules.{rules}
-use Rattle.sound_parts.proofs.queue.is_full.Statement.{statement}
-use Rattle.sound_parts.proofs.queue.is_full.Tie as tie
+use Rattle.sound_parts.proofs.queue.is_full.Goals as goal
 
 one_less : (n c : ℕ) → (c ≡ 0 → ⊥) → eqb n (c - 1) ≡ eqb (n + 1) c
 one_less n c some = elim (ℕ_discrete n (c - 1)) [
@@ -15,11 +14,8 @@ one_less n c some = elim (ℕ_discrete n (c - 1)) [
   | no e ↦ rw (ne_eqb n (c - 1) e, ne_eqb (n + 1) c (λ k. e (omega arith)))
 ]
 
-returns : tie.Need-returns
-returns c = let a = c.before.args in sym (ne_eqb (a.taken + 1) a.capacity (λ k. omega (arith, c.if1.true)))
+pub returns-then-capacity-eq0 : goal.returns-then-capacity-eq0
+returns-then-capacity-eq0 c = let a = c.args in sym (ne_eqb (a.taken + 1) a.capacity (λ k. omega (arith, c.if-capacity-eq0.true)))
 
-returns-2 : tie.Need-returns-2
-returns-2 c = let a = c.before.args in one_less a.taken a.capacity c.if1.false
-
-pub is-full-spec : {M : Type 1} → statement M
-is-full-spec = tie.close (tie.spec returns (λ c. search rules) returns-2)
+pub returns : goal.returns
+returns c = let a = c.args in one_less a.taken a.capacity c.if-capacity-eq0.false

@@ -3,12 +3,8 @@
 use mathlib.Core.Bool.{not-not}
 use lib.Dec.{eqb}
 use Rattle.model.specs.Test.{is_count_sound}
-use Rattle.sound_parts.proofs.record.count_sound.Statement.{statement}
-use Rattle.sound_parts.proofs.record.count_sound.Tie as tie
+use Rattle.sound_parts.proofs.record.count_sound.Goals as goal
 
-returns : tie.Need-returns
+pub returns : goal.returns
 unfolding is_count_sound
 returns c = rw (not-not (eqb c.args.first 0))
-
-pub count-sound-spec : {M : Type 1} → statement M
-count-sound-spec = tie.close (tie.spec returns)
