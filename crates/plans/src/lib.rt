@@ -10,7 +10,7 @@ ghost use Rattle.model.specs.State.{task, semaphore};
 ghost use Rattle.model.specs.Service.{signal};
 ghost use Rattle.model.specs.Services.{same, is_mine};
 ghost use Rattle.model.specs.Call.{planned_from};
-ghost use Rattle.tables.specs.Lent.{before};
+ghost use Rattle.tables.specs.Lent.{state_in};
 
 use crate::queue::queue_plan_in;
 use model::{Call, Context, FlagService, Plan};
@@ -81,7 +81,7 @@ fn signal_in(
     mine: bool,
     m: u32,
 ) -> Plan
-    ensures { result ≡ signal mine m (task (before bytes words levels waits numbers) (first_of (before bytes words levels waits numbers).waits m)) (semaphore (before bytes words levels waits numbers) m) }
+    ensures { result ≡ signal mine m (task (state_in bytes.now words.now levels.now waits.now numbers.now) (first_of (state_in bytes.now words.now levels.now waits.now numbers.now).waits m)) (semaphore (state_in bytes.now words.now levels.now waits.now numbers.now) m) }
 {
     let x = semaphore_at(waits, numbers, m as usize);
     let k = record_at(bytes, words, x.first as usize);
@@ -99,7 +99,7 @@ fn flag_plan_in(
     flag: u32,
     service: FlagService,
 ) -> Plan
-    ensures { result ≡ planned_from run (before bytes words levels waits numbers) c (OnFlag flag service) }
+    ensures { result ≡ planned_from run (state_in bytes.now words.now levels.now waits.now numbers.now) c (OnFlag flag service) }
 {
     let y = flag_at(waits, numbers, flag as usize);
     let k = record_at(bytes, words, flag_subject(service, run, y.first) as usize);
@@ -124,7 +124,7 @@ pub fn plan_in(
     c: Context,
     a: Call,
 ) -> Plan
-    ensures { result ≡ planned_from run (before bytes words levels waits numbers) c a }
+    ensures { result ≡ planned_from run (state_in bytes.now words.now levels.now waits.now numbers.now) c a }
 {
     let mine_t = in_t(c);
     let mine_i = in_i(c);

@@ -5,7 +5,7 @@ ghost use Rattle.model.specs.declared.Context.TheVariants.{I};
 ghost use Rattle.model.specs.declared.Call.TheVariants.{OnQueue};
 ghost use Rattle.model.specs.Services.{is_mine};
 ghost use Rattle.model.specs.Call.{planned_from};
-ghost use Rattle.tables.specs.Lent.{before};
+ghost use Rattle.tables.specs.Lent.{state_in};
 
 use crate::is_mine;
 use model::{Context, Plan, QueueService};
@@ -37,7 +37,7 @@ pub fn queue_plan_in(
     queue: u32,
     service: QueueService,
 ) -> Plan
-    ensures { result ≡ planned_from run (before bytes words levels waits numbers) c (OnQueue queue service) }
+    ensures { result ≡ planned_from run (state_in bytes.now words.now levels.now waits.now numbers.now) c (OnQueue queue service) }
 {
     let z = queue_at(bytes, words, waits, numbers, queue as usize);
     let k = record_at(bytes, words, run as usize);

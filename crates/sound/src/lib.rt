@@ -9,7 +9,7 @@ ghost use Rattle.model.specs.DataQueue.{places_of};
 ghost use Rattle.model.specs.Test.{below, zeros, is_unserved_in, is_origin, is_sound};
 ghost use Rattle.queues.specs.Queues.{waits_of};
 ghost use Rattle.numbers.specs.Numbers.{held_in};
-ghost use Rattle.tables.specs.Lent.{state_in, before};
+ghost use Rattle.tables.specs.Lent.{state_in};
 ghost use Rattle.sound.specs.Parts.{slice_at, count_at, flag_at, stock_at, seen_in};
 
 use crossing::cross_all;
@@ -54,7 +54,7 @@ struct Seen {
 }
 
 fn look(bytes: &Bytes, words: &Words, levels: &Levels, waits: &Waits, numbers: &NumberTable) -> Seen
-    ensures { result ≡ seen_in (before bytes words levels waits numbers) }
+    ensures { result ≡ seen_in (state_in bytes.now words.now levels.now waits.now numbers.now) }
 {
     let mut sound = true;
     let mut charges = true;
@@ -196,7 +196,7 @@ pub fn sound_in(
     waits: &Waits,
     numbers: &NumberTable,
 ) -> bool
-    ensures { result ≡ is_sound (before bytes words levels waits numbers) }
+    ensures { result ≡ is_sound (state_in bytes.now words.now levels.now waits.now numbers.now) }
 {
     // as slices, which tell the prover how long they are
     let ls: &[u8] = levels;

@@ -5,7 +5,7 @@
 ghost use Rattle.std.specs.Prelude.{◌≡◌};
 ghost use Rattle.model.specs.DataQueue.{queue_row};
 ghost use Rattle.model.specs.Flag.{flag_row};
-ghost use Rattle.tables.specs.Lent.{before, after};
+ghost use Rattle.tables.specs.Lent.{state_in, after};
 ghost use Rattle.tables.specs.Seen.{semaphore_in, flag_in, queue_in};
 
 use model::{DataQueue, Flag, Semaphore, State};
@@ -42,7 +42,7 @@ pub fn gather(
     waits: &Waits,
     numbers: &NumberTable,
 ) -> State
-    ensures { result ≡ before bytes words levels waits numbers }
+    ensures { result ≡ state_in bytes.now words.now levels.now waits.now numbers.now }
 {
     let tasks = stored::gather(bytes, words);
     let ls = queues::gather_levels(levels);
