@@ -4,7 +4,7 @@
 
 ghost use Rattle.std.specs.Prelude.{◌≡◌};
 ghost use Rattle.model.specs.Effect.{stopped, ticked_from, carried_from};
-ghost use Rattle.tables.specs.Lent.{before, after};
+ghost use Rattle.tables.specs.Lent.{state_in};
 
 use crate::queue::carry_queue;
 use effects::{move_from, move_task};
@@ -25,7 +25,7 @@ fn stop_task(
     numbers: &NumberTable,
     t: u8,
 )
-    ensures { after bytes words levels waits numbers ≡ stopped t (before bytes words levels waits numbers) }
+    ensures { state_in bytes.new words.new levels.new waits.new numbers.now ≡ stopped t (state_in bytes.old words.old levels.old waits.old numbers.now) }
 {
     let k = record_at(bytes, words, t as usize);
     let x = records::dormant(k.base);
@@ -47,7 +47,7 @@ pub fn tick(
     numbers: &mut NumberTable,
     run: u8,
 )
-    ensures { after bytes words levels waits numbers ≡ ticked_from run (before bytes words levels waits numbers) }
+    ensures { state_in bytes.new words.new levels.new waits.new numbers.new ≡ ticked_from run (state_in bytes.old words.old levels.old waits.old numbers.old) }
 {
     let time = numbers::time_in(numbers);
     numbers::put_time(numbers, std::num::wrapping_add_u32(time, 1));
@@ -65,7 +65,7 @@ pub fn carry(
     run: u8,
     e: Effect,
 )
-    ensures { after bytes words levels waits numbers ≡ carried_from run (before bytes words levels waits numbers) e }
+    ensures { state_in bytes.new words.new levels.new waits.new numbers.new ≡ carried_from run (state_in bytes.old words.old levels.old waits.old numbers.old) e }
 {
     match e {
         Effect::Nothing => {}

@@ -5,7 +5,7 @@ ghost use Rattle.std.specs.Prelude.{◌≡◌, ◌-◌, []};
 ghost use Rattle.model.specs.Effect.{carried_from, stored, taken, refilled, removed};
 ghost use Rattle.carry.specs.Queue.{of_queue};
 ghost use Rattle.numbers.specs.Numbers.{held_in};
-ghost use Rattle.tables.specs.Lent.{state_in, before, after};
+ghost use Rattle.tables.specs.Lent.{state_in};
 
 use effects::{move_from, move_task, tell_all};
 use model::{Effect, News};
@@ -55,7 +55,7 @@ fn refill(
     numbers: &mut NumberTable,
     queue: u8,
 )
-    ensures { after bytes words levels waits numbers ≡ refilled queue (before bytes words levels waits numbers) }
+    ensures { state_in bytes.new words.new levels.new waits.new numbers.new ≡ refilled queue (state_in bytes.old words.old levels.old waits.old numbers.old) }
 {
     let t = first_waiter(waits, records::queue_row(queue) as usize);
     let k = record_at(bytes, words, t as usize);
@@ -74,7 +74,7 @@ fn remove(
     numbers: &mut NumberTable,
     queue: u8,
 )
-    ensures { after bytes words levels waits numbers ≡ removed queue (before bytes words levels waits numbers) }
+    ensures { state_in bytes.new words.new levels.new waits.new numbers.new ≡ removed queue (state_in bytes.old words.old levels.old waits.old numbers.old) }
 {
     let q = waiters(waits, records::queue_row(queue));
     tell_all(bytes, words, levels, waits, numbers, q, News::Deleted);
@@ -92,7 +92,7 @@ pub fn carry_queue(
     numbers: &mut NumberTable,
     e: Effect,
 )
-    ensures { after bytes words levels waits numbers ≡ carried_from 0 (before bytes words levels waits numbers) (of_queue e) }
+    ensures { state_in bytes.new words.new levels.new waits.new numbers.new ≡ carried_from 0 (state_in bytes.old words.old levels.old waits.old numbers.old) (of_queue e) }
 {
     match e {
         Effect::Moves { task, record } => {

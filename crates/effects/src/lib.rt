@@ -8,7 +8,7 @@ ghost use Rattle.model.specs.Task.{ran_out};
 ghost use Rattle.model.specs.State.{moved, moved_from};
 ghost use Rattle.model.specs.Effect.{charged, lapsed, told_all};
 ghost use Rattle.queues.specs.Queues.{queues_of};
-ghost use Rattle.tables.specs.Lent.{before, after};
+ghost use Rattle.tables.specs.Lent.{state_in};
 ghost use Rattle.effects.specs.Falling.{fallen, is_due, fall_all};
 
 use model::{News, Task};
@@ -29,7 +29,7 @@ pub fn move_from(
     k: Task,
     x: Task,
 )
-    ensures { after bytes words levels waits numbers ≡ moved_from t k x (before bytes words levels waits numbers) }
+    ensures { state_in bytes.new words.new levels.new waits.new numbers.now ≡ moved_from t k x (state_in bytes.old words.old levels.old waits.old numbers.now) }
 {
     let from = records::level_of(k);
     let to = records::level_of(x);
@@ -51,7 +51,7 @@ pub fn move_task(
     t: u8,
     x: Task,
 )
-    ensures { after bytes words levels waits numbers ≡ moved t x (before bytes words levels waits numbers) }
+    ensures { state_in bytes.new words.new levels.new waits.new numbers.now ≡ moved t x (state_in bytes.old words.old levels.old waits.old numbers.now) }
 {
     let k = record_at(bytes, words, t as usize);
     move_from(bytes, words, levels, waits, numbers, t, k, x);
@@ -83,7 +83,7 @@ pub fn charge(
     numbers: &NumberTable,
     run: u8,
 )
-    ensures { after bytes words levels waits numbers ≡ charged run (before bytes words levels waits numbers) }
+    ensures { state_in bytes.now words.new levels.new waits.now numbers.now ≡ charged run (state_in bytes.now words.old levels.old waits.now numbers.now) }
 {
     if run == 0 {
         return;
@@ -164,7 +164,7 @@ pub fn lapse(
     waits: &mut Waits,
     numbers: &NumberTable,
 )
-    ensures { after bytes words levels waits numbers ≡ lapsed 24 1 (before bytes words levels waits numbers) }
+    ensures { state_in bytes.new words.new levels.new waits.new numbers.now ≡ lapsed 24 1 (state_in bytes.old words.old levels.old waits.old numbers.now) }
 {
     if !is_due(words) {
         fall(words);
@@ -195,7 +195,7 @@ pub fn tell_all(
     q: [u8; 24],
     news: News,
 )
-    ensures { after bytes words levels waits numbers ≡ told_all news q (before bytes words levels waits numbers) }
+    ensures { state_in bytes.new words.new levels.new waits.new numbers.now ≡ told_all news q (state_in bytes.old words.old levels.old waits.old numbers.now) }
 {
     let mut i: usize = 0;
     while i < 24 {

@@ -5,7 +5,7 @@
 ghost use Rattle.std.specs.Prelude.{◌≡◌};
 ghost use Rattle.model.specs.State.{fresh, running};
 ghost use Rattle.model.specs.Call.{call};
-ghost use Rattle.tables.specs.Lent.{before, after};
+ghost use Rattle.tables.specs.Lent.{state_in};
 ghost use Rattle.step.specs.Answer.{answer_of};
 
 use model::{Answer, Call, Code, Context, Numbers, Queue, State};
@@ -60,7 +60,7 @@ fn call_in(
     c: Context,
     a: Call,
 ) -> Stepped
-    ensures { answer_of result (after bytes words levels waits numbers) ≡ call (before bytes words levels waits numbers) c a }
+    ensures { answer_of result (state_in bytes.new words.new levels.new waits.new numbers.new) ≡ call (state_in bytes.old words.old levels.old waits.old numbers.old) c a }
 {
     let sound = sound::sound_in(bytes, words, levels, waits, numbers);
     if !sound {

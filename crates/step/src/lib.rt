@@ -5,7 +5,7 @@
 ghost use Rattle.std.specs.Prelude.{◌≡◌};
 ghost use Rattle.model.specs.declared.Call.TheVariants.{TickIntProcessing, OnQueue};
 ghost use Rattle.model.specs.Call.{step_from};
-ghost use Rattle.tables.specs.Lent.{before, after};
+ghost use Rattle.tables.specs.Lent.{state_in};
 ghost use Rattle.step.specs.Answer.{answer_of};
 
 use model::{Call, Code, Context, QueueService};
@@ -32,7 +32,7 @@ fn tick_in(
     run: u8,
     c: Context,
 ) -> Stepped
-    ensures { answer_of result (after bytes words levels waits numbers) ≡ step_from run (before bytes words levels waits numbers) c TickIntProcessing }
+    ensures { answer_of result (state_in bytes.new words.new levels.new waits.new numbers.new) ≡ step_from run (state_in bytes.old words.old levels.old waits.old numbers.old) c TickIntProcessing }
 {
     let mine = plans::in_i(c);
     if !mine {
@@ -62,7 +62,7 @@ fn queue_in(
     queue: u32,
     service: QueueService,
 ) -> Stepped
-    ensures { answer_of result (after bytes words levels waits numbers) ≡ step_from run (before bytes words levels waits numbers) c (OnQueue queue service) }
+    ensures { answer_of result (state_in bytes.new words.new levels.new waits.new numbers.new) ≡ step_from run (state_in bytes.old words.old levels.old waits.old numbers.old) c (OnQueue queue service) }
 {
     let p = plans::queue::queue_plan_in(
         bytes, words, levels, waits, numbers, run, c, queue, service,
@@ -89,7 +89,7 @@ pub fn step_in(
     c: Context,
     a: Call,
 ) -> Stepped
-    ensures { answer_of result (after bytes words levels waits numbers) ≡ step_from run (before bytes words levels waits numbers) c a }
+    ensures { answer_of result (state_in bytes.new words.new levels.new waits.new numbers.new) ≡ step_from run (state_in bytes.old words.old levels.old waits.old numbers.old) c a }
 {
     if let Call::TickIntProcessing = a {
         return tick_in(bytes, words, levels, waits, numbers, run, c);

@@ -5,7 +5,7 @@
 ghost use Rattle.std.specs.Prelude.{◌≡◌};
 ghost use Rattle.model.specs.DataQueue.{queue_row};
 ghost use Rattle.model.specs.Flag.{flag_row};
-ghost use Rattle.tables.specs.Lent.{state_in, after};
+ghost use Rattle.tables.specs.Lent.{state_in};
 ghost use Rattle.tables.specs.Seen.{semaphore_in, flag_in, queue_in};
 
 use model::{DataQueue, Flag, Semaphore, State};
@@ -23,7 +23,7 @@ pub fn spread(
     numbers: &mut NumberTable,
     s: State,
 )
-    ensures { after bytes words levels waits numbers ≡ s }
+    ensures { state_in bytes.new words.new levels.new waits.new numbers.new ≡ s }
 {
     let tasks = s.tasks;
     let ls = s.levels;

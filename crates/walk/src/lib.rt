@@ -4,7 +4,7 @@
 
 ghost use Rattle.std.specs.Prelude.{◌≡◌, drop};
 ghost use Rattle.lines.specs.Lines.{line_of};
-ghost use Rattle.tables.specs.Lent.{before, after};
+ghost use Rattle.tables.specs.Lent.{state_in};
 ghost use Rattle.walk.specs.Turn.{turn_in, turn_of};
 
 use lines::line::{Line, read_line};
@@ -32,7 +32,7 @@ pub fn play_line(
     wide: bool,
     at: usize,
 ) -> Turn
-    ensures { turn_in result (after bytes words levels waits numbers) ≡ turn_of run at (before bytes words levels waits numbers) (line_of wide (drop at file.now)) }
+    ensures { turn_in result (state_in bytes.new words.new levels.new waits.new numbers.new) ≡ turn_of run at (state_in bytes.old words.old levels.old waits.old numbers.old) (line_of wide (drop at file.now)) }
 {
     if file.len() < at {
         return Turn::Faults;

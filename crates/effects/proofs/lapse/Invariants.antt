@@ -1,0 +1,18 @@
+-- What the loop of `effects::lapse` keeps, and what falls.
+use Prim.Native.Nat.{◌≤◌, ◌-◌}
+use mathlib.Core.Path.{◌≡◌, refl, sym, ◌∙◌}
+use borrow.Author.Rules.{rules}
+use borrow.Author.Tests.{not-true}
+use native.Mathlib.Omega.{arith}
+use lib.ListN.{length, drop}
+use Rattle.model.specs.Effect.{lapsed, told_all}
+use Rattle.tables.specs.Lent.{state_in}
+use Rattle.effects.proofs.Moving as moving
+use Rattle.effects.proofs.Falling as law
+use Rattle.effects.proofs.lapse.Given as goal
+
+abbrev pub invariant-loop-t : goal.invariant-loop-t
+invariant-loop-t l = (1 ≤ l.t) × (l.t ≤ 25) × (lapsed (25 - l.t) l.t (state_in l.bytes l.words l.levels l.waits l.numbers) ≡ lapsed 24 1 (state_in l.initial.bytes l.initial.words l.initial.levels l.initial.waits l.numbers))
+
+abbrev pub decreases-loop-t : goal.decreases-loop-t
+decreases-loop-t l = 25 - l.t

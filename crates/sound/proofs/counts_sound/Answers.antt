@@ -1,0 +1,28 @@
+-- `sound::counts_sound` meets its contract. The invariant: the counts below m are sound so far.
+-- Rests on Tables.
+use mathlib.Core.Path.{◌≡◌, ◌∙◌}
+use Prim.Native.Nat.{◌-◌, ◌≤◌}
+use native.Mathlib.Omega.{arith}
+use borrow.Author.Rules.{rules}
+use Rattle.model.specs.Test.{below}
+use Rattle.queues.specs.Queues.{waits_of}
+use Rattle.numbers.specs.Numbers.{held_in}
+use Rattle.sound.specs.Parts.{count_at}
+use Rattle.sound.proofs.Tables.{below_on, below_none}
+use Rattle.sound.proofs.counts_sound.Goals as goal
+
+pub loop-m-init : goal.loop-m-init
+loop-m-init c = (omega arith, below_none _)
+
+pub loop-m-preserved : goal.loop-m-preserved
+loop-m-preserved c =
+    let l = c.loop-m in (
+      omega arith,
+      below_on _ l.m (c.count_sound-here.ensures ∙ rw (c.count_at-count.ensures, c.maximum_at-maximum.ensures, c.first_waiter-first.ensures)) l.invariant.1,
+    )
+
+pub returns : goal.returns
+returns c = let l = c.loop-m in let e : l.m ≡ 13 = omega arith in rw e at l.invariant.1
+
+pub loop-m-smaller : goal.loop-m-smaller
+loop-m-smaller c = omega arith
