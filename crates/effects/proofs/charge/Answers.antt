@@ -4,7 +4,6 @@ use Rattle.tables.specs.Lent.{state_in}
 use Rattle.effects.proofs.Charging as law
 use borrow.Author.Rules.{rules}
 use Rattle.effects.proofs.charge.Goals as goal
-use Rattle.effects.proofs.charge.Goals.{After-wide, After-turned_at-entered, After-wide-next}
 
 pub returns-then-run-eq0 : goal.returns-then-run-eq0
 returns-then-run-eq0 c = law.idle (state_in _ _ _ _ _) _ c.if-run-eq0.true
@@ -15,10 +14,10 @@ returns-then-slice-eq0 c =
 
 pub returns-then-next-wide : goal.returns-then-next-wide
 returns-then-next-wide c =
-    let d = (goal.at.returns-then-next-wide c).After-wide in law.more (state_in _ _ _ _ _) _ c.if-run-eq0.false _ c.record_at-k.ensures _ c.slice_at-slice.ensures d.if-slice-eq0.false _
-    (rw (d.wide-next.ensures, d.wide.ensures) at c.if-next-wide.true) (rw d.wide-next.ensures at c.put_charge.ensures)
+    law.more (state_in _ _ _ _ _) _ c.if-run-eq0.false _ c.record_at-k.ensures _ c.slice_at-slice.ensures c.if-slice-eq0.false _
+    (rw (c.wide-next.ensures, c.wide.ensures) at c.if-next-wide.true) (rw c.wide-next.ensures at c.put_charge.ensures)
 
 pub returns : goal.returns
 returns c =
-    let e = (goal.at.returns c).After-turned_at-entered in let d = (goal.at.returns c).After-wide-next in law.full (state_in _ _ _ _ _) _ c.if-run-eq0.false _ c.record_at-k.ensures _ c.slice_at-slice.ensures d.if-slice-eq0.false _ _ _
-    (rw (d.wide-next.ensures, d.wide.ensures) at e.if-next-wide.false) (rw e.time_in.ensures at e.turned_at-entered.ensures) c.put_marks.ensures c.turn_level.ensures
+    law.full (state_in _ _ _ _ _) _ c.if-run-eq0.false _ c.record_at-k.ensures _ c.slice_at-slice.ensures c.if-slice-eq0.false _ _ _
+    (rw (c.wide-next.ensures, c.wide.ensures) at c.if-next-wide.false) (rw c.time_in.ensures at c.turned_at-entered.ensures) c.put_marks.ensures c.turn_level.ensures

@@ -38,7 +38,7 @@ loop-t-preserved c =
       below_on _ l.t (unmet.is_unmet-unmet_here.ensures ∙ rw (bits.bits_at-bits.ensures, r)) l.invariant.5,
       below_on _ l.t (c.is_unserved_in-unserved_here.ensures ∙ rw r) l.invariant.6,
       rw (f, r) (fill_on level_of xs l.by_level l.t _ (omega arith) (omega arith) l.invariant.7),
-      rw (slice.row_of-row.ensures, r) (fill_on row_of xs l.by_Row l.t _ (omega arith) (omega arith) l.invariant.8),
+      rw (slice.row_of-row.ensures, r) (fill_on row_of xs l.by_row l.t _ (omega arith) (omega arith) l.invariant.8),
     )
 
 pub returns : goal.returns
@@ -54,7 +54,7 @@ returns c =
       rw e at l.invariant.5,
       rw e at l.invariant.6,
       fill_end level_of xs l.by_level l.t (omega arith) (omega arith) l.invariant.7,
-      fill_end row_of xs l.by_Row l.t (omega arith) (omega arith) l.invariant.8,
+      fill_end row_of xs l.by_row l.t (omega arith) (omega arith) l.invariant.8,
     )
 
 pub loop-t-smaller : goal.loop-t-smaller
