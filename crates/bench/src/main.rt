@@ -2,35 +2,19 @@
 // the next its whole slice. Each goes through the public call; what it prints is compared with the file beside src/. Rests on the kernel.
 #![tactic(auto)]
 
-use libc::STDOUT_FILENO;
 use model::{Call, Context, State};
+use std::io;
 
-fn say(text: &[u8], n: u32) {
-    io::write_all(STDOUT_FILENO, text);
-    io::print_decimal(STDOUT_FILENO, n as u64);
-    io::write_all(STDOUT_FILENO, b"\n");
+fn say(rt: &impl Print, text: &str, n: u32) -> io::Result<()> {
+    println!(rt; "{text}{n}")
 }
 
 // A wait code in the paper's number: one of the four that a wait ends with.
-fn say_code(text: &[u8], code: i32) {
-    io::write_all(STDOUT_FILENO, text);
-    if code == 0 {
-        io::write_all(STDOUT_FILENO, b"0\n");
-        return;
+fn say_code(rt: &impl Print, text: &str, code: i32) -> io::Result<()> {
+    match code {
+        0 | -4 | -10 | -11 => println!(rt; "{text}{code}"),
+        _ => println!(rt; "{text}no wait code"),
     }
-    if code == -4 {
-        io::write_all(STDOUT_FILENO, b"-4\n");
-        return;
-    }
-    if code == -10 {
-        io::write_all(STDOUT_FILENO, b"-10\n");
-        return;
-    }
-    if code == -11 {
-        io::write_all(STDOUT_FILENO, b"-11\n");
-        return;
-    }
-    io::write_all(STDOUT_FILENO, b"no wait code\n");
 }
 
 // The state after a call from a task.
@@ -42,12 +26,9 @@ fn asked(s: State, a: Call) -> State {
 // The state after so many ticks.
 fn ticked(s: State, n: u32) -> State {
     let mut now = s;
-    let mut i: u32 = 0;
-    while i < n {
+    for _ in 0..n {
         let r = kernel::call(now, Context::I, Call::TickIntProcessing);
-        let next = r.state;
-        now = next;
-        i += 1;
+        now = r.state;
     }
     now
 }
@@ -76,7 +57,7 @@ fn wait_code(s: State, t: usize) -> i32 {
 }
 
 // Task 1 waits for 65,535 ticks, task 2 without end.
-fn case_4() {
+fn case_4(rt: &impl Print) -> io::Result<()> {
     let made = asked(
         kernel::fresh(),
         Call::SemCreate {
@@ -116,16 +97,16 @@ fn case_4() {
         },
     );
     let before = ticked(waiting, 65534);
-    say(b"case 4: after tick 65534 runs ", running(before));
-    say(b"case 4: task 1 has ticks left ", remaining(before, 1));
+    say(rt, "case 4: after tick 65534 runs ", running(before))?;
+    say(rt, "case 4: task 1 has ticks left ", remaining(before, 1))?;
     let after = ticked(before, 1);
-    say(b"case 4: after tick 65535 runs ", running(after));
-    say_code(b"case 4: task 1's wait code is ", wait_code(after, 1));
-    say(b"case 4: task 2 has ticks left ", remaining(after, 2));
+    say(rt, "case 4: after tick 65535 runs ", running(after))?;
+    say_code(rt, "case 4: task 1's wait code is ", wait_code(after, 1))?;
+    say(rt, "case 4: task 2 has ticks left ", remaining(after, 2))
 }
 
 // Level 6 with slice 3: two ticks, task 1 sleeps, and task 2 has three ticks of its own.
-fn case_13() {
+fn case_13(rt: &impl Print) -> io::Result<()> {
     let sliced = asked(kernel::fresh(), Call::SysTsliceTicks { level: 6, slice: 3 });
     let one = asked(
         sliced,
@@ -152,18 +133,18 @@ fn case_13() {
         },
     );
     let charged = ticked(three, 2);
-    say(b"case 13: after tick 2 runs ", running(charged));
+    say(rt, "case 13: after tick 2 runs ", running(charged))?;
     let slept = asked(charged, Call::TaskSleep { timeout: 100 });
-    say(b"case 13: after the sleep runs ", running(slept));
+    say(rt, "case 13: after the sleep runs ", running(slept))?;
     let third = ticked(slept, 1);
-    say(b"case 13: after tick 3 runs ", running(third));
+    say(rt, "case 13: after tick 3 runs ", running(third))?;
     let fourth = ticked(third, 1);
-    say(b"case 13: after tick 4 runs ", running(fourth));
+    say(rt, "case 13: after tick 4 runs ", running(fourth))?;
     let fifth = ticked(fourth, 1);
-    say(b"case 13: after tick 5 runs ", running(fifth));
+    say(rt, "case 13: after tick 5 runs ", running(fifth))
 }
 
-fn main() {
-    case_4();
-    case_13();
+fn main(rt: HostRuntime) -> io::Result<()> {
+    case_4(&rt)?;
+    case_13(&rt)
 }

@@ -1,5 +1,5 @@
-// Every entry that callers in other languages have, each a thin relay with the promise of what it relays.
-// include/gritgarland.h declares them. Rests on the border, the test of soundness, the runner and, for what a refusal leaves, soundness.
+// Every entry that callers in other languages have, each a thin relay with the promise of what it relays. gritgarland_c exports them under
+// these names. Rests on the border, the test of soundness, the runner and, for what a refusal leaves, soundness.
 #![tactic(auto)]
 
 ghost use Rattle.std.specs.Prelude.{◌≡◌, true, length};
@@ -22,8 +22,7 @@ pub struct Report {
 }
 
 // One call on any state, by numbers.
-#[unsafe(no_mangle)]
-pub extern "C" fn gritgarland_call(
+pub fn gritgarland_call(
     s: State,
     context: u32,
     service: u32,
@@ -38,8 +37,7 @@ pub extern "C" fn gritgarland_call(
 }
 
 // The same on the one state that the caller lends: it becomes the next state, and a refusal leaves it.
-#[unsafe(no_mangle)]
-pub extern "C" fn gritgarland_call_in_place(
+pub fn gritgarland_call_in_place(
     s: &mut State,
     context: u32,
     service: u32,
@@ -64,32 +62,28 @@ pub extern "C" fn gritgarland_call_in_place(
 }
 
 // Does a state keep every rule of a sound state?
-#[unsafe(no_mangle)]
-pub extern "C" fn gritgarland_is_sound(s: State) -> bool
+pub fn gritgarland_is_sound(s: State) -> bool
     ensures { result ≡ is_sound s }
 {
     sound::is_sound(s)
 }
 
 // The code with which a wait ended, from what a task's record keeps of it.
-#[unsafe(no_mangle)]
-pub extern "C" fn gritgarland_wait_code(kept: u8) -> i32
+pub fn gritgarland_wait_code(kept: u8) -> i32
     ensures { result ≡ wait_number kept }
 {
     records::wait_number(kept)
 }
 
 // A whole list of calls: the file's bytes and an answer buffer in, one signed number out.
-#[unsafe(no_mangle)]
-pub extern "C" fn gritgarland_run_list(file: &[u8], answer: &mut [u8]) -> i64
+pub fn gritgarland_run_list(file: &[u8], answer: &mut [u8]) -> i64
     ensures { (result ≡ signed_of (ran_of file.now (length answer.old))) × (answer.new ≡ buffer_of (ran_of file.now (length answer.old)) file.now answer.old) }
 {
     runner::run_list(file, answer)
 }
 
 // The same by its first name, for callers that were written before it had the longer one.
-#[unsafe(no_mangle)]
-pub extern "C" fn run_list(file: &[u8], answer: &mut [u8]) -> i64
+pub fn run_list(file: &[u8], answer: &mut [u8]) -> i64
     ensures { (result ≡ signed_of (ran_of file.now (length answer.old))) × (answer.new ≡ buffer_of (ran_of file.now (length answer.old)) file.now answer.old) }
 {
     gritgarland_run_list(file, answer)
