@@ -2,11 +2,11 @@
 -- Rests on the logic's formulas, which are data: what a parameter owns and leaves is read off them, so equal types have the same.
 use mathlib.Core.Path.{◌≡◌, refl, sym, subst}
 use mathlib.Core.List.{List, [], ◌∷◌}
-use mir.Syntax.{Lifetime, Mutability, imm, mut, Ty, ty_int, ty_bool, ty_float, ty_ptr, ty_ref, ty_array, ty_unit, ty_struct, ty_enum, ty_named}
+use mir.Syntax.{Lifetime, Mutability, imm, mut, Ty, ty_int, ty_bool, ty_float, ty_ptr, ty_ref, ty_array, ty_unit, ty_struct, ty_enum, ty_named, ty_param, ty_const, ty_array_p}
 use mir.Val.{Val}
 use base.Stored.{Gv, gnil}
-use base.Fml.{Lft, Fml, ftrue, ffalse, feq, flt, fsep, fand, for, fwand, fex, fall, fupd, fat, froom, fdies, flft, fdead, fobs, fauth, fres, fbor, fobor, flent, fshr_bor}
-use seplogic.Ra.TreeShare.{full_share}
+use base.Fml.{Lft, Fml, ftrue, ffalse, feq, flt, fsep, fand, for, fwand, fex, fall, fupd, fat, froom, fdies, flft, fdead, fobs, fauth, fres, fbor, fobor, flent, fshr_bor, fhide, fleft, fown, finv, fnamed, ftok, fkid, fme, fsent}
+use base.Fraction.{full_share}
 use denote.Exit.{yes, Last, left}
 use denote.Shadow.{shadow}
 use denote.RattleType.{RattleType}
@@ -54,17 +54,26 @@ parts (fbor κ P) = record { first = P; second = ftrue; value = gnil; bound = Un
 parts (fobor κ q P) = none
 parts (flent κ P) = none
 parts (fshr_bor κ Φ) = none
+parts (fhide P) = none
+parts (fleft q τ τs b o) = none
+parts (fown R γ x) = none
+parts (finv P) = none
+parts (fnamed n P) = none
+parts (ftok E) = none
+parts (fkid h a) = none
+parts (fme h) = none
+parts (fsent t) = none
 
-abbrev Left : Type 2
+abbrev Left : Type 1
 Left = (T : RattleType) × ((x : T.Denot) × Last (T.exit yes) x)
 
 -- what a `&mut` borrows
 abbrev lent : Left → Parts
-lent l = parts (parts (parts (parts (l.0.own l.1.0 [])).second).second).first
+lent l = parts (parts (parts (parts (l.0.own_val l.1.0 [])).second).second).first
 
 -- it can hold what the `&mut` leaves
 abbrev Held : Left → Type 0
-Held l = (h : (lent l).bound) × (shadow (parts ((lent l).body h)).first × ((parts (parts ((lent l).body h)).second).value ≡ (parts (left (l.0.exit yes) l.1.0 l.1.1)).value))
+Held l = (h : (lent l).bound) × (shadow (parts ((lent l).body h)).first × ((parts (parts ((lent l).body h)).second).value ≡ (parts (parts (left (l.0.exit yes) l.1.0 l.1.1)).first).value))
 
 held_is : (ℓ : Lifetime) (κ : Lft) (R : RattleType) (x : MutBor R.Denot) (v : R.Denot) → Held (MutRef ℓ κ R, (x, v)) → (vs : List Val) × Is R v vs
 unfolding part_of
@@ -93,7 +102,10 @@ IsMutRef (ty_array τ n ∷ τs) = ⊥
 IsMutRef (ty_unit ∷ τs) = ⊥
 IsMutRef (ty_struct ν σs ∷ τs) = ⊥
 IsMutRef (ty_enum ν σss ∷ τs) = ⊥
-IsMutRef (ty_named ν ∷ τs) = ⊥
+IsMutRef (ty_named ν ωs ∷ τs) = ⊥
+IsMutRef (ty_param i ∷ τs) = ⊥
+IsMutRef (ty_const i ∷ τs) = ⊥
+IsMutRef (ty_array_p τ i ∷ τs) = ⊥
 
 pub beside : (T : RattleType) (x : T.Denot) (v : Last (T.exit yes) x) → (IsMutRef T.mir → ⊥) → OfType T x v
 beside T x v f = record { stands = λ ℓ κ R y u p. absurd (f (subst (λ (l : Left). IsMutRef l.0.mir) (sym p) tt)) }

@@ -4,8 +4,8 @@ use mathlib.Core.Path.{◌≡◌, refl, sym, ◌∙◌, ap}
 use mathlib.Core.List.{List}
 use Prim.Native.Nat.{ℕ, ◌*◌}
 use lib.ListN.{length}
-use mir.Syntax.{Lifetime}
-use prog.Routine.{Routine}
+use mir.Syntax.{Lifetime, Callee}
+use prog.Wired.{Code}
 use base.Logic.{ent, emp, id⊢}
 use base.Fml.{Lft}
 use contract.Monad.{conj, conj_l, conj_r, fact, fact_i, fact_use}
@@ -32,14 +32,14 @@ use Rattle.promises.specs.Tight.{Contract, Keeps, OfType, Outcome, clauses, Open
 
 -- a row whose outcomes coincide, of their types or not,
 abbrev pub of :
-    (S : Signature) (c : Contract S) {ρ : Routine} → Keeps S c ρ →
+    (S : Signature) (c : Contract S) {name : Callee} (code : Code) → Keeps S c name code →
     ((w : World) (κs : Lfts S.lifetimes) (a : Args S κs) (g h : (clauses S c w κs a).ghost) (o p : Outcome S c κs a) → Open S c w κs a g × Coincide S c w κs a g h o p) →
     Promise
-of S c {ρ} k t = record { signature = S; contract = c; routine = ρ; kept = k; tight = λ w κs a g h o p. ((t w κs a g h o p).0, λ i j. (t w κs a g h o p).1) }
+of S c {name} code k t = record { signature = S; contract = c; name = name; code = code; kept = k; tight = λ w κs a g h o p. ((t w κs a g h o p).0, λ i j. (t w κs a g h o p).1) }
 
 -- and one whose outcomes do if they are of their types
-abbrev pub typed : (S : Signature) (c : Contract S) {ρ : Routine} → Keeps S c ρ → Tight S c → Promise
-typed S c {ρ} k t = record { signature = S; contract = c; routine = ρ; kept = k; tight = t }
+abbrev pub typed : (S : Signature) (c : Contract S) {name : Callee} (code : Code) → Keeps S c name code → Tight S c → Promise
+typed S c {name} code k t = record { signature = S; contract = c; name = name; code = code; kept = k; tight = t }
 
 -- a contract that asks nothing and is one plain fact: φ of one outcome, χ of the other
 pub plain : (w : World) {φ χ ψ : Type 0} → (φ → χ → ψ) → ent w.𝓤 (emp w.𝓤) (emp w.𝓤) × ent w.𝓤 (conj w.𝓤 (fact w.𝓤 φ) (fact w.𝓤 χ)) (fact w.𝓤 ψ)

@@ -14,13 +14,14 @@
 -- logic, κs are lifetimes, a the arguments, g and h the ghosts of a contract (all of ours are the unit) and o, p outcomes.
 use Rattle.std.specs.Prelude.{ℕ, ◌≡◌, List, [], ◌∷◌}
 use seplogic.Ra.Ura.{Ura}
-use mir.Syntax.{Lifetime}
+use mir.Syntax.{Lifetime, Callee}
 use mir.Val.{Val}
 use base.Logic.{SProp, ent, emp}
 use base.Fml.{Lft}
 use prog.Memory.{Memory}
 use prog.Model.{Model}
 use prog.Routine.{Routine}
+use prog.Wired.{Wired, Code}
 use types.Logic.{Logic}
 use contract.Monad.{Fun, conj, fact}
 use contract.Lifetimes.{Lfts}
@@ -57,19 +58,19 @@ AllOfType κs [] a vs = Unit {2}
 AllOfType κs (s ∷ ss) a vs = OfType (s.row κs) a.0 vs.0 × AllOfType κs ss a.1 vs.1
 
 module _ (S : Signature) (c : Contract S) where
-  -- the routine keeps the contract, at every model of the logic: what `F.Met` shows
-  abbrev pub Keeps : Routine → Type 2
-  Keeps ρ =
-      (M : Type 1) (𝓤 : Ura M) (𝓛 : Logic 𝓤) (𝓜 : Model 𝓤 𝓛.H) (𝓡 : Running 𝓤 𝓛.H 𝓜) →
-      Meets 𝓛 S (𝓡.run ρ)
-      (closing 𝓛 (told S) (c M 𝓤 𝓛 𝓜.mem 𝓡.run))
+  -- the function of this name keeps the contract wherever its name stands for its code, at every model of the logic: what `F.Met` shows
+  abbrev pub Keeps : Callee → Code → Type 2
+  Keeps name code =
+      (M : Type 1) (𝓤 : Ura M) (𝓛 : Logic 𝓤) (𝓜 : Model 𝓤 𝓛.H) (𝓡 : Running 𝓤 𝓛.H 𝓜) → Wired 𝓡.env code →
+      Meets 𝓛 S (𝓡.run (𝓡.env name))
+      (closing 𝓛 (told S) (c M 𝓤 𝓛 𝓜.mem 𝓡.returns))
 
   -- a result, and what every `&mut` holds last
   abbrev pub Outcome : (κs : Lfts S.lifetimes) → Args S κs → Type 0
   Outcome κs a = Res S κs × Lasts (told S) κs a
 
   abbrev pub clauses : (w : World) → Clauses w.𝓤 (told S)
-  clauses w = c w.M w.𝓤 w.𝓛 w.𝓜.mem w.𝓡.run
+  clauses w = c w.M w.𝓤 w.𝓛 w.𝓜.mem w.𝓡.returns
 
   abbrev pub allows :
       (w : World) (κs : Lfts S.lifetimes) (a : Args S κs) → (clauses w κs a).ghost → Outcome κs a → SProp w.𝓤
@@ -93,10 +94,11 @@ module _ (S : Signature) (c : Contract S) where
       (w : World) (κs : Lfts S.lifetimes) (a : Args S κs) (g h : (clauses w κs a).ghost) (o p : Outcome κs a) →
       Open w κs a g × (Typed κs a o → Typed κs a p → Coincide w κs a g h o p)
 
--- a function's promise: a contract that its routine keeps, and that is tight
+-- a function's promise: a contract that its code keeps, and that is tight
 pub record Promise : Type 3 where
   pub signature : Signature
   pub contract : Contract signature
-  pub routine : Routine
-  pub kept : Keeps signature contract routine
+  pub name : Callee
+  pub code : Code
+  pub kept : Keeps signature contract name code
   pub tight : Tight signature contract
