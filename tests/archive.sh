@@ -118,7 +118,7 @@ refuses 1 "white space" "$work/none "
 mkdir "$work/closed" && : >"$work/closed/include"
 refuses 1 "can't write under $work/closed" "$work/closed"
 rm "$tree/target/staticlib/libgritgarland.a"
-refuses 1 "rt staticlib gritgarland" "$work/none"
+refuses 1 "tools/build-lib" "$work/none"
 if command -v objcopy >/dev/null && command -v nm >/dev/null; then
     objcopy --redefine-sym gritgarland_wait_code=other "$archive" "$tree/target/staticlib/libgritgarland.a"
     refuses 1 "has no gritgarland_wait_code" "$work/none"

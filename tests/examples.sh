@@ -51,7 +51,7 @@ awk '
         gsub(/∷|\[\]|[()]/, " ")
         name = $2
         gsub(/[A-Z]/, "_&", name)
-        call = ($1 == "byTask" ? "T" : "I") ",tn" tolower(name)
+        call = ($1 == "by_task" ? "T" : "I") ",tn" tolower(name)
         for (i = 3; i <= 5; i++) call = call "," (i <= NF - 6 ? $i : "")
         at = NF - 6
         print "`" call "` " $(at + 1) " + " $(at + 2) " = " $(at + 3) " + " $(at + 4) " + " $(at + 5) " + " $(at + 6)

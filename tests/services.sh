@@ -28,7 +28,7 @@ same() {
 # are in no list, and all others have names of document 000, which begin with tn_
 grep -q '^services = tasks ++ (system ++ (semaphores ++ (flags ++ (own ++ queues))))$' "$table" || { echo "services: the parts of $table stand in another order"; exit 1; }
 awk '
-    /^( *(∷ )?|[a-z]+ = )(aService "tn_|ownService "[a-z])/ {
+    /^( *(∷ )?|[a-z]+ = )(a_service "tn_|own_service "[a-z])/ {
         split($0, quoted, "\"")
         rest = quoted[3]
         line = ++number " " quoted[2] " " substr(rest, 2, 1)
@@ -36,14 +36,14 @@ awk '
         if (rest ~ /^ [TI] \(/) {
             sub(/^ [TI] \(/, "", rest)
             sub(/ ∷ \[\]\).*/, "", rest)
-            for (i = 1; i <= split(rest, kind, " ∷ "); i++) line = line " " (kind[i] ~ /^the[A-Z]/ ? tolower(substr(kind[i], 4)) : "no-word-for-" kind[i])
+            for (i = 1; i <= split(rest, kind, " ∷ "); i++) line = line " " (kind[i] ~ /^the_[a-z]+$/ ? substr(kind[i], 5) : "no-word-for-" kind[i])
         }
         print line
     }
 ' "$table" >"$work/table"
 [ "$(wc -l <"$work/table")" -eq 41 ] || { echo "services: $table has not 41 rows that can be read"; exit 1; }
 awk '$2 !~ /^tn_/ { print $2 }' "$work/table" >"$work/own"
-[ "$(grep -c 'ownService "[a-z]' "$table")" -eq "$(wc -l <"$work/own")" ] || { echo "services: a row of $table is not in its part, or not named as those of its part"; exit 1; }
+[ "$(grep -c 'own_service "[a-z]' "$table")" -eq "$(wc -l <"$work/own")" ] || { echo "services: a row of $table is not in its part, or not named as those of its part"; exit 1; }
 
 # ---- the header's constants
 awk '{ sub(/^tn_/, "", $2); print "GRITGARLAND_" toupper($2), $1 }' "$work/table" >"$work/wanted"
