@@ -1,6 +1,6 @@
 -- The border to other languages: what plain numbers for context and service name, and the answer in plain numbers.
 -- A number that names nothing is WRONG_PARAM of a sound state; a number that the service does not take is not looked at.
-use Rattle.std.specs.Prelude.{Bool, true, false, cond, ℕ, eqb}
+use Rattle.std.specs.Prelude.{cond, ℕ, eqb}
 use Rattle.model.specs.declared.State.{State}
 use Rattle.model.specs.declared.Answer.{Answer}
 use Rattle.model.specs.declared.Context.{Context}

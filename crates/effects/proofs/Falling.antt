@@ -1,9 +1,9 @@
 -- A tick's timeouts in the tables that store the records: one turn of the loop over them, and all of them at once where none ends.
 -- Rests on Moving and the laws of the tables in stored.
 use mathlib.Core.Path.{◌≡◌, refl, sym, ap, ◌∙◌}
-use mathlib.Core.Bool.{Bool, true, false, ◌||◌, or_assoc, or-false, true≢false}
+use mathlib.Core.Bool.{Bool, false, ◌||◌, or_assoc, or-false, true≢false}
 use mathlib.Core.List.{List}
-use mathlib.Core.Logic.{◌⊎◌, ⊎_elim}
+use mathlib.Core.Logic.{⊎_elim}
 use Prim.Native.Nat.{ℕ, zero, suc, ◌+◌, ◌-◌, ◌≤◌, ◌<◌}
 use native.Mathlib.Numerals.{add-one}
 use native.Mathlib.Omega.{arith}

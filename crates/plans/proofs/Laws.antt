@@ -1,6 +1,6 @@
 -- The services of flags and of data queues that a match on the interrupt forms leaves over belong to tasks, and the two contexts exclude each other.
 -- It rests on the table of services alone.
-use mathlib.Core.Bool.{Bool, true, false, cond, not}
+use mathlib.Core.Bool.{Bool, false, cond, not}
 use mathlib.Core.List.{List, [], ◌∷◌}
 use mathlib.Core.Path.{◌≡◌, refl, ap, ◌∙◌}
 use Prim.Native.Nat.{ℕ}

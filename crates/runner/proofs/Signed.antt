@@ -1,6 +1,6 @@
 -- The signed number that the editor gets: it fits in 64 bits, so it is returned as it is. Rests on the law of negated numbers (laws).
 use Prim.Native.Nat.{ℕ, zero, suc, ◌+◌, ◌-◌, ◌<◌, ◌≤◌, ◌^◌}
-use mathlib.Core.Path.{◌≡◌, refl, ap, sym, ◌∙◌, subst}
+use mathlib.Core.Path.{◌≡◌, refl}
 use mathlib.Core.Bool.{Bool, true, false, cond}
 use mathlib.Core.List.{List, [], ◌∷◌}
 use native.Mathlib.Omega.{arith}
@@ -14,8 +14,6 @@ use mir.Val.{to_z, of_z, SFits}
 use mir.Facts.{to_z-of_z}
 use Rattle.laws.proofs.Negated.{minus_fits}
 use Rattle.text.proofs.Reading.{cond_by}
-use Rattle.model.specs.declared.Context.{Context}
-use Rattle.model.specs.declared.Call.{Call}
 use Rattle.lines.specs.declared.line.Line.{Line}
 use Rattle.lines.specs.declared.line.Line.TheVariants.{Reads, Unreadable as NoLine}
 use Rattle.lines.specs.declared.line.Header.{Header}
@@ -23,7 +21,7 @@ use Rattle.lines.specs.declared.line.Header.TheVariants.{Ends, NoHeader}
 use Rattle.lines.specs.Lines.{line_of, header_of}
 use Rattle.runner.specs.declared.Ran.{Ran}
 use Rattle.runner.specs.declared.Ran.TheVariants.{Wrote, TooLong, Unreadable, Short}
-use Rattle.walk.specs.Script.{Script, done, fault, next, line_then, script_in, header_then, script_of, fault_of}
+use Rattle.walk.specs.Script.{next, line_then, script_in, header_then, script_of, fault_of}
 use Rattle.walk.specs.Rows.{text_of}
 use Rattle.runner.specs.Outcome.{judged, ran_of, signed_of, Small}
 

@@ -1,6 +1,6 @@
 -- One line played, way by way: it reads or it doesn't, or it begins past the file's end.
 -- Rests on the definitions, and on the lines' least and greatest lengths in lines.
-use mathlib.Core.Path.{◌≡◌, refl, sym, ap, ◌∙◌}
+use mathlib.Core.Path.{◌≡◌, ap}
 use mathlib.Core.Bool.{Bool}
 use mathlib.Core.List.{List}
 use Prim.Native.Nat.{ℕ, ◌+◌, ◌≤◌, ◌<◌}
@@ -17,8 +17,7 @@ use Rattle.step.specs.Answer.{answer_of}
 use Rattle.lines.specs.declared.line.Line.{Line}
 use Rattle.lines.specs.declared.line.Line.TheVariants.{Reads, Unreadable}
 use Rattle.lines.specs.Lines.{letter_of, line_of}
-use Rattle.lines.proofs.Within.{LineIn, line_in}
-use Rattle.walk.specs.declared.Turn.{Turn}
+use Rattle.lines.proofs.Within.{line_in}
 use Rattle.walk.specs.declared.Turn.TheVariants.{Plays, Faults}
 use Rattle.walk.specs.Turn.{turn_in, stepped_of, turn_of}
 

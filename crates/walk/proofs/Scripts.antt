@@ -1,7 +1,7 @@
 -- A script, line by line: at the end, at a line that can't be read, at one that can.
 -- It rests on the definitions of specs/.
 use Prim.Native.Nat.{ℕ, zero, suc, ◌+◌, ◌-◌, ◌<◌, ◌≤◌}
-use mathlib.Core.Path.{◌≡◌, refl, ap, sym, ◌∙◌}
+use mathlib.Core.Path.{◌≡◌, refl, ap, ◌∙◌}
 use mathlib.Core.Bool.{Bool}
 use mathlib.Core.List.{List, [], ◌∷◌}
 use native.Mathlib.Omega.{arith}
@@ -9,10 +9,9 @@ use lib.ListN.{length, drop, drop_of_length-le, length-drop}
 use lib.Seq.{drop-drop}
 use Rattle.model.specs.declared.Context.{Context}
 use Rattle.model.specs.declared.Call.{Call}
-use Rattle.lines.specs.declared.line.Line.{Line}
 use Rattle.lines.specs.declared.line.Line.TheVariants.{Reads, Unreadable}
 use Rattle.lines.specs.Lines.{line_of}
-use Rattle.walk.specs.Script.{Script, done, fault, next, line_then, script_in}
+use Rattle.walk.specs.Script.{done, fault, next, line_then, script_in}
 
 module _ (wide : Bool) where
   -- k bytes are passed over

@@ -10,7 +10,7 @@ use Rattle.model.specs.declared.State.{State}
 use Rattle.model.specs.declared.Context.{Context}
 use Rattle.model.specs.declared.Call.{Call}
 use Rattle.model.specs.Row.{row, best_from}
-use Rattle.model.specs.State.{fresh, running}
+use Rattle.model.specs.State.{fresh}
 use Rattle.model.specs.Call.{step_from, step}
 use Rattle.step.specs.declared.Stepped.{Stepped}
 use Rattle.step.proofs.Stepping.{step_from_lem, runs_on}

@@ -1,6 +1,6 @@
 -- The answer of a list as text: the header `n,code,running`, and a row for each call from the fresh state, CRLF after each.
 -- Rests on the checked call.
-use Rattle.std.specs.Prelude.{ℕ, zero, suc, ◌+◌, List, [], ◌∷◌, ◌++◌, ℤ, pos, negsuc}
+use Rattle.std.specs.Prelude.{ℕ, suc, ◌+◌, List, [], ◌∷◌, ◌++◌, ℤ, pos, negsuc}
 use Rattle.text.specs.Bytes.{bytes}
 use Rattle.text.specs.Decimal.{decimal}
 use Rattle.model.specs.declared.State.{State}

@@ -2,7 +2,7 @@
 use Rattle.border.proofs.Standing as law
 use mir.Facts.{to_z-of_z}
 use mir.Syntax.{w32}
-use borrow.Author.Rules.{rules, sfits_of}
+use borrow.Author.Rules.{sfits_of}
 use Rattle.border.proofs.call_by_number.Goals as goal
 
 pub returns : goal.returns

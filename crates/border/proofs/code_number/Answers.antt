@@ -1,5 +1,4 @@
 -- `border::code_number` meets its contract: code by code.
-use borrow.Author.Rules.{rules}
 use Rattle.border.proofs.code_number.Goals as goal
 
 pub returns-in-NoErr : goal.returns-in-NoErr

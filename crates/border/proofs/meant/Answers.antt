@@ -1,5 +1,4 @@
 -- `border::meant` meets its contract: by what the numbers name.
-use borrow.Author.Rules.{rules}
 use Rattle.border.proofs.meant.Goals as goal
 
 pub returns : goal.returns

@@ -1,5 +1,5 @@
 -- `carry::carry` meets its contract: arm by arm.
-use Rattle.std.proofs.Common.{refl, rules}
+use Rattle.std.proofs.Common.{refl}
 use Rattle.model.specs.declared.Effect.TheVariants.{Queues, Removes, Stores, Takes, Refills}
 use Rattle.tables.specs.Lent.{state_in}
 use Rattle.carry.proofs.Arms as law

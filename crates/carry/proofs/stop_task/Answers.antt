@@ -1,5 +1,4 @@
 -- `carry::stop_task` meets its contract: with and without an activation that is counted.
-use Rattle.std.proofs.Common.{refl, ◌∙◌, rules}
 use Rattle.tables.specs.Lent.{state_in}
 use Rattle.carry.proofs.Arms as law
 use Rattle.carry.proofs.stop_task.Goals as goal

@@ -1,5 +1,5 @@
 -- `carry::tick` meets its contract: time, charge and timeouts.
-use Rattle.std.proofs.Common.{refl, ◌∙◌, rules}
+use Rattle.std.proofs.Common.{◌∙◌}
 use Rattle.tables.specs.Lent.{state_in}
 use Rattle.carry.proofs.Arms as law
 use Rattle.carry.proofs.tick.Goals as goal

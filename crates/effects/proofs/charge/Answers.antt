@@ -2,7 +2,6 @@
 use mathlib.Core.Path.{sym, ◌∙◌}
 use Rattle.tables.specs.Lent.{state_in}
 use Rattle.effects.proofs.Charging as law
-use borrow.Author.Rules.{rules}
 use Rattle.effects.proofs.charge.Goals as goal
 
 pub returns-then-run-eq0 : goal.returns-then-run-eq0

@@ -1,9 +1,6 @@
 -- `effects::fall` meets its contract. The invariant: the timeouts that are left fall to what the whole falls to.
-use Prim.Native.Nat.{◌≤◌, ◌-◌}
-use mathlib.Core.Path.{◌≡◌, refl}
-use borrow.Author.Rules.{rules}
+use mathlib.Core.Path.{refl}
 use native.Mathlib.Omega.{arith}
-use Rattle.effects.specs.Falling.{fall_all}
 use Rattle.effects.proofs.Falling as law
 use Rattle.effects.proofs.fall.Goals as goal
 

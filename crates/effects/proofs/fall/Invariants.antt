@@ -1,10 +1,7 @@
 -- What the loop of `effects::fall` keeps, and what falls.
 use Prim.Native.Nat.{◌≤◌, ◌-◌}
-use mathlib.Core.Path.{◌≡◌, refl}
-use borrow.Author.Rules.{rules}
-use native.Mathlib.Omega.{arith}
+use mathlib.Core.Path.{◌≡◌}
 use Rattle.effects.specs.Falling.{fall_all}
-use Rattle.effects.proofs.Falling as law
 use Rattle.effects.proofs.fall.Given as goal
 
 abbrev pub invariant-loop-t : goal.invariant-loop-t

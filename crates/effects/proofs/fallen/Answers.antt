@@ -1,5 +1,4 @@
 -- `effects::fallen` meets its contract: as it computes.
-use borrow.Author.Rules.{rules}
 use borrow.Author.Tests.{eq-eqb, ne_eqb}
 use Rattle.effects.specs.Falling.{fallen}
 use Rattle.effects.proofs.fallen.Goals as goal

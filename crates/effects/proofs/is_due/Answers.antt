@@ -1,10 +1,6 @@
 -- `effects::is_due` meets its contract. The invariant: what was seen, or what is left, says it of the whole.
-use Prim.Native.Nat.{◌≤◌, ◌-◌}
-use mathlib.Core.Bool.{◌||◌}
-use mathlib.Core.Path.{◌≡◌, refl}
-use borrow.Author.Rules.{rules}
+use mathlib.Core.Path.{refl}
 use native.Mathlib.Omega.{arith}
-use Rattle.effects.specs.Falling.{is_due}
 use Rattle.effects.proofs.Falling as law
 use Rattle.effects.proofs.is_due.Goals as goal
 

@@ -1,11 +1,8 @@
 -- What the loop of `effects::is_due` keeps, and what falls.
 use Prim.Native.Nat.{◌≤◌, ◌-◌}
 use mathlib.Core.Bool.{◌||◌}
-use mathlib.Core.Path.{◌≡◌, refl}
-use borrow.Author.Rules.{rules}
-use native.Mathlib.Omega.{arith}
+use mathlib.Core.Path.{◌≡◌}
 use Rattle.effects.specs.Falling.{is_due}
-use Rattle.effects.proofs.Falling as law
 use Rattle.effects.proofs.is_due.Given as goal
 
 abbrev pub invariant-loop-t : goal.invariant-loop-t

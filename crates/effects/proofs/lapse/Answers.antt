@@ -1,12 +1,7 @@
 -- `effects::lapse` meets its contract: the invariant: what is left to lapse makes of the tables what the whole makes of them at entry.
-use Prim.Native.Nat.{◌≤◌, ◌-◌}
-use mathlib.Core.Path.{◌≡◌, refl, sym, ◌∙◌}
-use borrow.Author.Rules.{rules}
+use mathlib.Core.Path.{refl, sym, ◌∙◌}
 use borrow.Author.Tests.{not-true}
 use native.Mathlib.Omega.{arith}
-use lib.ListN.{length, drop}
-use Rattle.model.specs.Effect.{lapsed, told_all}
-use Rattle.tables.specs.Lent.{state_in}
 use Rattle.effects.proofs.Moving as moving
 use Rattle.effects.proofs.Falling as law
 use Rattle.effects.proofs.lapse.Goals as goal

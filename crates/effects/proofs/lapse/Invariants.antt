@@ -1,14 +1,8 @@
 -- What the loop of `effects::lapse` keeps, and what falls.
 use Prim.Native.Nat.{◌≤◌, ◌-◌}
-use mathlib.Core.Path.{◌≡◌, refl, sym, ◌∙◌}
-use borrow.Author.Rules.{rules}
-use borrow.Author.Tests.{not-true}
-use native.Mathlib.Omega.{arith}
-use lib.ListN.{length, drop}
-use Rattle.model.specs.Effect.{lapsed, told_all}
+use mathlib.Core.Path.{◌≡◌}
+use Rattle.model.specs.Effect.{lapsed}
 use Rattle.tables.specs.Lent.{state_in}
-use Rattle.effects.proofs.Moving as moving
-use Rattle.effects.proofs.Falling as law
 use Rattle.effects.proofs.lapse.Given as goal
 
 abbrev pub invariant-loop-t : goal.invariant-loop-t

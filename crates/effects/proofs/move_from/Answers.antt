@@ -1,5 +1,4 @@
 -- `effects::move_from` meets its contract: the record, then queue by queue.
-use borrow.Author.Rules.{rules}
 use Rattle.effects.proofs.move_from.Goals as goal
 
 pub returns : goal.returns

@@ -1,7 +1,6 @@
 -- `effects::move_task` meets its contract: the record that it reads is the task's.
 use mathlib.Core.Path.{◌∙◌}
 use Rattle.effects.proofs.Moving as law
-use borrow.Author.Rules.{rules}
 use Rattle.effects.proofs.move_task.Goals as goal
 
 pub returns : goal.returns

@@ -1,14 +1,8 @@
 -- `effects::tell_all` meets its contract: the invariant: what is left to tell makes of the tables what the whole makes of them at entry.
-use Prim.Native.Nat.{◌≤◌, ◌-◌}
-use mathlib.Core.Path.{◌≡◌, refl, sym, ◌∙◌}
+use mathlib.Core.Path.{refl}
 use borrow.Author.Rules.{rules}
-use borrow.Author.Tests.{not-true}
 use native.Mathlib.Omega.{arith}
-use lib.ListN.{length, drop}
-use Rattle.model.specs.Effect.{lapsed, told_all}
-use Rattle.tables.specs.Lent.{state_in}
 use Rattle.effects.proofs.Moving as moving
-use Rattle.effects.proofs.Falling as law
 use Rattle.effects.proofs.tell_all.Goals as goal
 
 pub loop-i-init : goal.loop-i-init

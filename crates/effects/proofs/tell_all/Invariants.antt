@@ -1,14 +1,9 @@
 -- What the loop of `effects::tell_all` keeps, and what falls.
 use Prim.Native.Nat.{◌≤◌, ◌-◌}
-use mathlib.Core.Path.{◌≡◌, refl, sym, ◌∙◌}
-use borrow.Author.Rules.{rules}
-use borrow.Author.Tests.{not-true}
-use native.Mathlib.Omega.{arith}
+use mathlib.Core.Path.{◌≡◌}
 use lib.ListN.{length, drop}
-use Rattle.model.specs.Effect.{lapsed, told_all}
+use Rattle.model.specs.Effect.{told_all}
 use Rattle.tables.specs.Lent.{state_in}
-use Rattle.effects.proofs.Moving as moving
-use Rattle.effects.proofs.Falling as law
 use Rattle.effects.proofs.tell_all.Given as goal
 
 abbrev pub invariant-loop-i : goal.invariant-loop-i

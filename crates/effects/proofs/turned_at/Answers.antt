@@ -2,7 +2,6 @@
 -- Written out, so that a task alone in its level that is marked is refused as just that.
 use mathlib.Core.Path.{sym, ap}
 use mathlib.Core.Bool.{Bool, cond}
-use borrow.Author.Rules.{rules}
 use borrow.Author.Tests.{eq-eqb, ne_eqb}
 use Rattle.effects.proofs.turned_at.Goals as goal
 

@@ -3,7 +3,6 @@ use mathlib.Core.Path.{ap, ◌∙◌}
 use Rattle.step.specs.Answer.{answer_of}
 use Rattle.tables.specs.Lent.{state_in}
 use Rattle.kernel.proofs.Calling as law
-use borrow.Author.Rules.{rules}
 use Rattle.kernel.proofs.call.Goals as goal
 
 pub returns : goal.returns

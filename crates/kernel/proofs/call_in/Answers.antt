@@ -1,6 +1,5 @@
 -- `kernel::call_in` meets its contract: a state that passes the test is stepped, any other is refused.
 use Rattle.kernel.proofs.Calling as law
-use borrow.Author.Rules.{rules}
 use Rattle.kernel.proofs.call_in.Goals as goal
 
 pub returns-then-not-sound : goal.returns-then-not-sound

@@ -1,5 +1,4 @@
 -- `kernel::fresh` meets its contract: zeros in every table.
-use borrow.Author.Rules.{rules}
 use Rattle.kernel.proofs.fresh.Goals as goal
 
 pub returns : goal.returns

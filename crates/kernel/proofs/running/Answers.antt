@@ -2,7 +2,6 @@
 use mathlib.Core.Path.{ap, ◌∙◌}
 use Rattle.model.specs.Row.{best_from}
 use Rattle.model.specs.State.{running}
-use borrow.Author.Rules.{rules}
 use Rattle.kernel.proofs.running.Goals as goal
 
 pub returns : goal.returns

@@ -1,5 +1,4 @@
 -- `plans::is_flag_inside` meets its contract: the three forms by the table of services, and of the rest none is theirs.
-use borrow.Author.Rules.{rules}
 use borrow.Enum.Refused.{opened}
 use Rattle.model.specs.Services.{is_mine}
 use Rattle.model.proofs.Words.{table}

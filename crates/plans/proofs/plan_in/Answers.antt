@@ -2,7 +2,6 @@
 use Rattle.model.specs.Call.{plan}
 use Rattle.model.specs.Services.{is_mine}
 use Rattle.model.proofs.Words.{table}
-use borrow.Author.Rules.{rules}
 use Rattle.plans.proofs.plan_in.Goals as goal
 
 pub returns-in-TaskCreate : goal.returns-in-TaskCreate

@@ -1,5 +1,4 @@
 -- `plans::signal_in` meets its contract: by what it reads.
-use borrow.Author.Rules.{rules}
 use Rattle.plans.proofs.signal_in.Goals as goal
 
 pub returns : goal.returns

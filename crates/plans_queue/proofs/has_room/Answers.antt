@@ -2,7 +2,6 @@
 -- Rests on Laws.
 use mathlib.Core.Path.{sym}
 use Rattle.plans_queue.proofs.Laws.{room_none, room}
-use borrow.Author.Rules.{rules}
 use Rattle.plans_queue.proofs.has_room.Goals as goal
 
 pub returns-then-capacity-eq0 : goal.returns-then-capacity-eq0

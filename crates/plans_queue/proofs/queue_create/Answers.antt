@@ -5,7 +5,6 @@ use borrow.Author.Tests.{leb-true}
 use mathlib.Core.Bool.{not-not}
 use Rattle.model.specs.Service.{queue_create}
 use Rattle.checks.proofs.Laws.{refuses, passes, is_right, and_left, and_right, within-top}
-use borrow.Author.Rules.{rules}
 use Rattle.plans_queue.proofs.queue_create.Goals as goal
 
 pub returns-in-Refuses : goal.returns-in-Refuses

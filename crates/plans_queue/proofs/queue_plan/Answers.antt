@@ -1,7 +1,6 @@
 -- `plans_queue::queue_plan` meets its contract: service by service.
 -- It rests on the contracts of the services.
 use Rattle.model.specs.Call.{queue_plan}
-use borrow.Author.Rules.{rules}
 use Rattle.plans_queue.proofs.queue_plan.Goals as goal
 
 pub returns-in-Create : goal.returns-in-Create

@@ -4,7 +4,6 @@ use native.Mathlib.Omega.{arith}
 use borrow.Author.Tests.{eq-eqb, ne_eqb}
 use Rattle.model.specs.Service.{queue_send}
 use Rattle.checks.proofs.Laws.{refuses, passes, is_right, and_left, within-top}
-use borrow.Author.Rules.{rules}
 use Rattle.plans_queue.proofs.queue_send.Goals as goal
 
 pub returns-in-Refuses : goal.returns-in-Refuses

@@ -3,7 +3,6 @@
 use native.Mathlib.Omega.{arith}
 use Rattle.model.specs.Service.{queue_send_poll}
 use Rattle.checks.proofs.Laws.{refuses, passes, is_right, within-top}
-use borrow.Author.Rules.{rules}
 use Rattle.plans_queue.proofs.queue_send_poll.Goals as goal
 
 pub returns-in-Refuses : goal.returns-in-Refuses

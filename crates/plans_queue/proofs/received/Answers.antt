@@ -4,7 +4,6 @@ use mathlib.Core.Path.{◌≡◌, sym, ◌∙◌}
 use mathlib.Core.Bool.{true, false}
 use Prim.Native.Nat.{ℕ}
 use borrow.Author.Tests.{eq-eqb, ne_eqb}
-use borrow.Author.Rules.{rules}
 use Rattle.model.specs.declared.DataQueue.{DataQueue}
 use Rattle.model.specs.declared.Plan.{Plan}
 use Rattle.model.specs.declared.Effect.TheVariants.{Moves, Takes, Refills}

@@ -5,7 +5,6 @@ use Prim.Native.Nat.{◌+◌}
 use native.Mathlib.Omega.{arith}
 use borrow.Author.Tests.{ltb-true}
 use Rattle.model.specs.Service.{sent}
-use borrow.Author.Rules.{rules}
 use Rattle.plans_queue.proofs.sent.Goals as goal
 
 pub returns-then-receives : goal.returns-then-receives

@@ -1,12 +1,11 @@
 -- `runner::number` meets its contract: case by case.
-use mathlib.Core.Path.{◌≡◌, ap, sym, ◌∙◌, subst}
+use mathlib.Core.Path.{ap, sym, ◌∙◌, subst}
 use native.Mathlib.Omega.{arith}
 use mir.Syntax.{w64}
 use mir.Facts.{to_z_pos}
 use Prim.Native.Nat.{◌+◌, ◌<◌, ◌≤◌, ◌^◌}
 use Rattle.runner.specs.Outcome.{signed_of, Small}
 use Rattle.laws.proofs.Negated.{negated_fits, negated_back}
-use borrow.Author.Rules.{rules}
 use Rattle.runner.proofs.number.Goals as goal
 use Rattle.runner.proofs.number.Goals.{In-Wrote, In-Unreadable}
 

@@ -1,11 +1,7 @@
 -- `runner::play` meets its contract: what the loop keeps is Left of Playing.
-use Prim.Native.Nat.{◌-◌}
 use mathlib.Core.Path.{refl, sym, ◌∙◌}
-use borrow.Author.Rules.{rules}
 use native.Mathlib.Omega.{arith}
-use lib.ListN.{length}
 use Rattle.text.proofs.Places.{part_of}
-use Rattle.tables.specs.Lent.{state_in}
 use Rattle.lines.specs.Lines.{line_of}
 use Rattle.runner.proofs.Playing as law
 use Rattle.runner.proofs.Playing.{Left}

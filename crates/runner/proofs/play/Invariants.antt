@@ -1,13 +1,7 @@
 -- What the loop of `runner::play` keeps, and what falls.
 use Prim.Native.Nat.{◌-◌}
-use mathlib.Core.Path.{refl, sym, ◌∙◌}
-use borrow.Author.Rules.{rules}
-use native.Mathlib.Omega.{arith}
 use lib.ListN.{length}
-use Rattle.text.proofs.Places.{part_of}
 use Rattle.tables.specs.Lent.{state_in}
-use Rattle.lines.specs.Lines.{line_of}
-use Rattle.runner.proofs.Playing as law
 use Rattle.runner.proofs.Playing.{Left}
 use Rattle.runner.proofs.play.Given as goal
 

@@ -6,7 +6,6 @@ use lib.Seq.{length-take-le}
 use Rattle.lines.proofs.Within.{header_in}
 use Rattle.lines.proofs.Ended.{header_ends}
 use Rattle.runner.proofs.Judging as law
-use borrow.Author.Rules.{rules}
 use Rattle.runner.proofs.run.Goals as goal
 
 pub returns-then-file-gt65536 : goal.returns-then-file-gt65536

@@ -1,12 +1,11 @@
 -- `runner::run_list` meets its contract: the number of what became of the file.
-use mathlib.Core.Path.{◌≡◌, ap, sym, ◌∙◌, subst}
+use mathlib.Core.Path.{ap, sym, ◌∙◌, subst}
 use native.Mathlib.Omega.{arith}
 use Prim.Native.Nat.{◌<◌, ◌^◌}
 use lib.ListN.{length}
-use Rattle.runner.specs.Outcome.{signed_of, Small, ran_of}
+use Rattle.runner.specs.Outcome.{signed_of, Small}
 use Rattle.runner.proofs.Signed.{back}
 use Rattle.runner.proofs.Signed.{small as small-ran}
-use borrow.Author.Rules.{rules}
 use Rattle.runner.proofs.run_list.Goals as goal
 use Rattle.runner.proofs.run_list.Goals.{After-run-r}
 

@@ -1,10 +1,6 @@
 -- `runner::write` meets its contract. The invariant: what is left of the rows, put where it stands, gives the whole answer.
-use Prim.Native.Nat.{◌+◌, ◌-◌, ◌≤◌}
-use mathlib.Core.Path.{◌≡◌, refl, ◌∙◌}
-use borrow.Author.Rules.{rules}
+use mathlib.Core.Path.{refl, ◌∙◌}
 use native.Mathlib.Omega.{arith}
-use lib.ListN.{length}
-use lib.Seq.{sets}
 use Rattle.runner.specs.Kept.{kept_rows}
 use Rattle.runner.proofs.Writing as law
 use Rattle.runner.proofs.Writing.{left}

@@ -1,12 +1,9 @@
 -- What the loop of `runner::write` keeps, and what falls.
 use Prim.Native.Nat.{◌+◌, ◌-◌, ◌≤◌}
-use mathlib.Core.Path.{◌≡◌, refl, ◌∙◌}
-use borrow.Author.Rules.{rules}
-use native.Mathlib.Omega.{arith}
+use mathlib.Core.Path.{◌≡◌}
 use lib.ListN.{length}
 use lib.Seq.{sets}
 use Rattle.runner.specs.Kept.{kept_rows}
-use Rattle.runner.proofs.Writing as law
 use Rattle.runner.proofs.Writing.{left}
 use Rattle.runner.proofs.write.Given as goal
 

@@ -1,13 +1,10 @@
 -- What the loop of `sound::counts_sound` keeps, and what falls.
-use mathlib.Core.Path.{◌≡◌, ◌∙◌}
+use mathlib.Core.Path.{◌≡◌}
 use Prim.Native.Nat.{◌-◌, ◌≤◌}
-use native.Mathlib.Omega.{arith}
-use borrow.Author.Rules.{rules}
 use Rattle.model.specs.Test.{below}
 use Rattle.queues.specs.Queues.{waits_of}
 use Rattle.numbers.specs.Numbers.{held_in}
 use Rattle.sound.specs.Parts.{count_at}
-use Rattle.sound.proofs.Tables.{below_on, below_none}
 use Rattle.sound.proofs.counts_sound.Given as goal
 
 abbrev pub invariant-loop-m : goal.invariant-loop-m

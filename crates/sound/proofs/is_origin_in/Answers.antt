@@ -1,5 +1,4 @@
 -- `sound::is_origin_in` meets its contract: by the contracts of what it reads.
-use borrow.Author.Rules.{rules}
 use Rattle.sound.proofs.is_origin_in.Goals as goal
 
 pub returns : goal.returns

@@ -1,14 +1,11 @@
 -- `sound::is_rest_free` meets its contract. The invariant: what was seen and what is left say it of the whole.
 -- Rests on crossing/proofs/Steps.
-use mathlib.Core.Path.{◌≡◌, refl}
-use mathlib.Core.Bool.{◌&&◌}
+use mathlib.Core.Path.{refl}
 use mathlib.Core.List.{List}
-use Prim.Native.Nat.{ℕ, ◌-◌, ◌≤◌}
+use Prim.Native.Nat.{ℕ, ◌≤◌}
 use native.Mathlib.Omega.{arith}
-use lib.ListN.{length, drop, length-take}
-use borrow.Author.Rules.{rules}
+use lib.ListN.{length, length-take}
 use Rattle.model.specs.DataQueue.{places_of}
-use Rattle.model.specs.Test.{zeros}
 use Rattle.numbers.specs.Numbers.{held_in}
 use Rattle.crossing.proofs.Steps.{zeros_on, zeros_end}
 use Rattle.sound.proofs.is_rest_free.Goals as goal

@@ -1,15 +1,11 @@
 -- What the loop of `sound::is_rest_free` keeps, and what falls.
-use mathlib.Core.Path.{◌≡◌, refl}
+use mathlib.Core.Path.{◌≡◌}
 use mathlib.Core.Bool.{◌&&◌}
-use mathlib.Core.List.{List}
-use Prim.Native.Nat.{ℕ, ◌-◌, ◌≤◌}
-use native.Mathlib.Omega.{arith}
-use lib.ListN.{length, drop, length-take}
-use borrow.Author.Rules.{rules}
+use Prim.Native.Nat.{◌-◌}
+use lib.ListN.{drop}
 use Rattle.model.specs.DataQueue.{places_of}
 use Rattle.model.specs.Test.{zeros}
 use Rattle.numbers.specs.Numbers.{held_in}
-use Rattle.crossing.proofs.Steps.{zeros_on, zeros_end}
 use Rattle.sound.proofs.is_rest_free.Given as goal
 
 abbrev pub invariant-loop-i : goal.invariant-loop-i

@@ -1,7 +1,6 @@
 -- `sound::is_unserved_in` meets its contract: of a wait on no data queue nothing is asked.
 -- Rests on tables.
 use mathlib.Core.Path.{sym, ◌∙◌}
-use borrow.Author.Rules.{rules}
 use borrow.Author.Tests.{not-true}
 use Rattle.model.specs.Test.{is_unserved}
 use Rattle.sound.proofs.is_unserved_in.Goals as goal

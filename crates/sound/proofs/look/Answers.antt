@@ -1,19 +1,11 @@
 -- `sound::look` meets its contract. The invariant: what is seen of the records below t.
 -- Rests on Tables.
 use mathlib.Core.Path.{◌≡◌, refl, ◌∙◌}
-use mathlib.Core.List.{map}
-use Prim.Native.Nat.{◌-◌, ◌≤◌}
 use native.Mathlib.Omega.{arith}
-use lib.ListN.{length, take, length-set}
-use borrow.Author.Rules.{rules}
+use lib.ListN.{length-set}
 use Rattle.model.specs.Task.{level_of, row_of}
-use Rattle.model.specs.Test.{below}
 use Rattle.stored.specs.Stored.{tasks_of}
 use Rattle.stored.proofs.Laws.{length_tasks}
-use Rattle.queues.specs.Queues.{queues_of}
-use Rattle.numbers.specs.Numbers.{held_in}
-use Rattle.tables.specs.Lent.{state_in}
-use Rattle.sound.specs.Parts.{task_at, charge_at, unmet_at, unserved_at}
 use Rattle.sound.proofs.Tables.{below_on, below_none, fill_on, fill_end}
 use Rattle.sound.proofs.look.Goals as goal
 use Rattle.sound.proofs.look.Goals.{After-is_unmet-unmet_here, After-charge_sound-charge_here, After-slice_at-slice, After-level_of-level, After-bits_at-bits}

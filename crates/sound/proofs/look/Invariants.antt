@@ -1,19 +1,15 @@
 -- What the loop of `sound::look` keeps, and what falls.
-use mathlib.Core.Path.{◌≡◌, refl, ◌∙◌}
+use mathlib.Core.Path.{◌≡◌}
 use mathlib.Core.List.{map}
 use Prim.Native.Nat.{◌-◌, ◌≤◌}
-use native.Mathlib.Omega.{arith}
-use lib.ListN.{length, take, length-set}
-use borrow.Author.Rules.{rules}
+use lib.ListN.{length, take}
 use Rattle.model.specs.Task.{level_of, row_of}
 use Rattle.model.specs.Test.{below}
 use Rattle.stored.specs.Stored.{tasks_of}
-use Rattle.stored.proofs.Laws.{length_tasks}
 use Rattle.queues.specs.Queues.{queues_of}
 use Rattle.numbers.specs.Numbers.{held_in}
 use Rattle.tables.specs.Lent.{state_in}
 use Rattle.sound.specs.Parts.{task_at, charge_at, unmet_at, unserved_at}
-use Rattle.sound.proofs.Tables.{below_on, below_none, fill_on, fill_end}
 use Rattle.sound.proofs.look.Given as goal
 
 abbrev pub invariant-loop-t : goal.invariant-loop-t

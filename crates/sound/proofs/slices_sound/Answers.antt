@@ -1,12 +1,7 @@
 -- `sound::slices_sound` meets its contract. The invariant: the slices below l are sound so far.
 -- Rests on Tables.
 use mathlib.Core.Path.{◌≡◌, ◌∙◌}
-use Prim.Native.Nat.{◌-◌, ◌≤◌}
 use native.Mathlib.Omega.{arith}
-use borrow.Author.Rules.{rules}
-use Rattle.model.specs.Test.{below}
-use Rattle.numbers.specs.Numbers.{held_in}
-use Rattle.sound.specs.Parts.{slice_at}
 use Rattle.sound.proofs.Tables.{below_on, below_none}
 use Rattle.sound.proofs.slices_sound.Goals as goal
 

@@ -1,12 +1,9 @@
 -- What the loop of `sound::slices_sound` keeps, and what falls.
-use mathlib.Core.Path.{◌≡◌, ◌∙◌}
+use mathlib.Core.Path.{◌≡◌}
 use Prim.Native.Nat.{◌-◌, ◌≤◌}
-use native.Mathlib.Omega.{arith}
-use borrow.Author.Rules.{rules}
 use Rattle.model.specs.Test.{below}
 use Rattle.numbers.specs.Numbers.{held_in}
 use Rattle.sound.specs.Parts.{slice_at}
-use Rattle.sound.proofs.Tables.{below_on, below_none}
 use Rattle.sound.proofs.slices_sound.Given as goal
 
 abbrev pub invariant-loop-l : goal.invariant-loop-l

@@ -2,7 +2,6 @@
 -- Rests on Whole.
 use mathlib.Core.Path.{sym}
 use native.Mathlib.Omega.{arith}
-use borrow.Author.Rules.{rules}
 use Rattle.sound.proofs.Whole.{sound_tested}
 use Rattle.sound.proofs.sound_in.Goals as goal
 use Rattle.sound.proofs.sound_in.Goals.{After-cross_all-waiting, After-cross_all-runnable, After-stocks_sound-stocks, After-flags_sound-flags, After-look-seen, After-is_origin_in-origin}

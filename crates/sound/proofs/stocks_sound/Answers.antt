@@ -1,13 +1,8 @@
 -- `sound::stocks_sound` meets its contract. The invariant: the data queues below q are sound so far.
 -- Rests on Tables.
 use mathlib.Core.Path.{◌≡◌, ◌∙◌}
-use Prim.Native.Nat.{◌-◌, ◌≤◌}
 use native.Mathlib.Omega.{arith}
-use borrow.Author.Rules.{rules}
-use Rattle.model.specs.Test.{below, is_stock_sound}
-use Rattle.queues.specs.Queues.{waits_of}
-use Rattle.numbers.specs.Numbers.{held_in}
-use Rattle.sound.specs.Parts.{stock_at}
+use Rattle.model.specs.Test.{is_stock_sound}
 use Rattle.sound.proofs.Tables.{below_on, below_none}
 use Rattle.sound.proofs.stocks_sound.Goals as goal
 

@@ -1,13 +1,10 @@
 -- What the loop of `sound::stocks_sound` keeps, and what falls.
-use mathlib.Core.Path.{◌≡◌, ◌∙◌}
+use mathlib.Core.Path.{◌≡◌}
 use Prim.Native.Nat.{◌-◌, ◌≤◌}
-use native.Mathlib.Omega.{arith}
-use borrow.Author.Rules.{rules}
-use Rattle.model.specs.Test.{below, is_stock_sound}
+use Rattle.model.specs.Test.{below}
 use Rattle.queues.specs.Queues.{waits_of}
 use Rattle.numbers.specs.Numbers.{held_in}
 use Rattle.sound.specs.Parts.{stock_at}
-use Rattle.sound.proofs.Tables.{below_on, below_none}
 use Rattle.sound.proofs.stocks_sound.Given as goal
 
 abbrev pub invariant-loop-q : goal.invariant-loop-q

@@ -1,7 +1,6 @@
 -- `step::queue_in` meets its contract: the plan, and then its effect, which is one of a data queue's.
 use Rattle.tables.specs.Lent.{state_in}
 use Rattle.step.proofs.Stepping as law
-use borrow.Author.Rules.{rules}
 use Rattle.step.proofs.queue_in.Goals as goal
 
 pub returns : goal.returns

@@ -1,7 +1,6 @@
 -- `step::step_in` meets its contract: a tick, a service of data queues, or the plan and then its effect.
 use Rattle.tables.specs.Lent.{state_in}
 use Rattle.step.proofs.Stepping as law
-use borrow.Author.Rules.{rules}
 use Rattle.step.proofs.step_in.Goals as goal
 
 pub returns-in-TickIntProcessing : goal.returns-in-TickIntProcessing

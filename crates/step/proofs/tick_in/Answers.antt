@@ -1,7 +1,6 @@
 -- `step::tick_in` meets its contract: a tick from a task is refused, any other passes.
 use Rattle.tables.specs.Lent.{state_in}
 use Rattle.step.proofs.Stepping as law
-use borrow.Author.Rules.{rules}
 use Rattle.step.proofs.tick_in.Goals as goal
 
 pub returns-then-not-mine : goal.returns-then-not-mine

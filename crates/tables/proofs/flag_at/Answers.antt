@@ -1,5 +1,4 @@
 -- `tables::flag_at` meets its contract: by the contracts of what it reads.
-use borrow.Author.Rules.{rules}
 use Rattle.tables.proofs.flag_at.Goals as goal
 
 pub returns : goal.returns

@@ -1,6 +1,5 @@
 -- `tables::flag_row` meets its contract: a number past the flags has no row.
 use native.Mathlib.Omega.{arith}
-use borrow.Author.Rules.{rules}
 use borrow.Author.Tests.{le-leb, lt-leb}
 use Rattle.model.specs.Flag.{flag_row}
 use Rattle.tables.proofs.flag_row.Goals as goal

@@ -1,5 +1,4 @@
 -- `tables::gather` meets its contract: table by table.
-use borrow.Author.Rules.{rules}
 use Rattle.tables.proofs.gather.Goals as goal
 
 pub returns : goal.returns

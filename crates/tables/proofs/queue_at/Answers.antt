@@ -1,5 +1,4 @@
 -- `tables::queue_at` meets its contract: by the contracts of what it reads.
-use borrow.Author.Rules.{rules}
 use Rattle.tables.proofs.queue_at.Goals as goal
 
 pub returns : goal.returns

@@ -1,6 +1,5 @@
 -- `tables::queue_row` meets its contract: a number past the data queues has no row.
 use native.Mathlib.Omega.{arith}
-use borrow.Author.Rules.{rules}
 use borrow.Author.Tests.{le-leb, lt-leb}
 use Rattle.model.specs.DataQueue.{queue_row}
 use Rattle.tables.proofs.queue_row.Goals as goal

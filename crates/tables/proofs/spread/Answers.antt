@@ -1,5 +1,4 @@
 -- `tables::spread` meets its contract: table by table.
-use borrow.Author.Rules.{rules}
 use Rattle.tables.proofs.spread.Goals as goal
 
 pub returns : goal.returns

@@ -5,7 +5,6 @@ use Rattle.text.proofs.Places.{part_of}
 use Rattle.tables.specs.Lent.{state_in}
 use Rattle.lines.specs.Lines.{line_of}
 use Rattle.walk.proofs.Playing as law
-use borrow.Author.Rules.{rules}
 use Rattle.walk.proofs.play_line.Goals as goal
 
 pub returns-then-file-at : goal.returns-then-file-at

@@ -1,6 +1,6 @@
 -- `carry::queue::carry_queue` meets its contract: arm by arm.
 use borrow.Enum.Refused.{opened}
-use Rattle.std.proofs.Common.{[], ap, rules}
+use Rattle.std.proofs.Common.{[], ap}
 use Rattle.tables.specs.Lent.{state_in}
 use Rattle.carry.specs.Queue.{of_queue}
 use Rattle.carry.proofs.Arms as law

@@ -1,6 +1,6 @@
 -- `carry::queue::refill` meets its contract: by what it reads, the elements, and the move.
 -- Rests on Stock.
-use Rattle.std.proofs.Common.{◌∙◌, rules}
+use Rattle.std.proofs.Common.{◌∙◌}
 use Rattle.tables.specs.Lent.{state_in}
 use Rattle.carry.proofs.Stock as law
 use Rattle.carry.proofs.queue.refill.Goals as goal

@@ -2,7 +2,6 @@
 -- Rests on Stock.
 use Rattle.tables.specs.Lent.{state_in}
 use Rattle.carry.proofs.Stock as law
-use Rattle.std.proofs.Common.{rules}
 use Rattle.carry.proofs.queue.store.Goals as goal
 
 pub returns : goal.returns

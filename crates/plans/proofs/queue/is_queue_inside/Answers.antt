@@ -3,7 +3,6 @@ use borrow.Enum.Refused.{opened}
 use Rattle.model.specs.Services.{is_mine}
 use Rattle.model.proofs.Words.{table}
 use Rattle.plans.proofs.Laws.{no_queue_lem}
-use borrow.Author.Rules.{rules}
 use Rattle.plans.proofs.queue.is_queue_inside.Goals as goal
 
 pub returns-in-IsendPolling : goal.returns-in-IsendPolling

@@ -3,7 +3,6 @@ use Rattle.model.specs.declared.Call.TheVariants.{OnQueue}
 use Rattle.model.specs.Call.{plan}
 use Rattle.model.specs.Services.{is_mine}
 use Rattle.plans.proofs.Laws.{mine_of}
-use borrow.Author.Rules.{rules}
 use Rattle.plans.proofs.queue.queue_plan_in.Goals as goal
 
 pub returns : goal.returns

@@ -1,6 +1,5 @@
 -- `sound_parts::flag::flag_sound` meets its contract, test by test.
 -- Rests on model/specs/Test.
-use borrow.Author.Rules.{rules}
 use Rattle.model.specs.Test.{is_flag_sound}
 use Rattle.sound_parts.proofs.flag.flag_sound.Goals as goal
 

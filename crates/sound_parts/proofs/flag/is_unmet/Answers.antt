@@ -1,6 +1,5 @@
 -- `sound_parts::flag::is_unmet` meets its contract, test by test.
 -- Rests on model/specs/Test.
-use borrow.Author.Rules.{rules}
 use Rattle.model.specs.Test.{is_unmet}
 use Rattle.sound_parts.proofs.flag.is_unmet.Goals as goal
 

@@ -3,7 +3,6 @@
 use mathlib.Core.Path.{sym, ◌∙◌}
 use native.Mathlib.Omega.{arith}
 use lib.ListN.{get_or-eq_default}
-use borrow.Author.Rules.{rules}
 use Rattle.queues.specs.Queues.{wait_rows}
 use Rattle.queues.proofs.Bridge.{second_queue}
 use Rattle.sound_parts.proofs.flag.second_waiter.Goals as goal

@@ -5,7 +5,6 @@ use native.Mathlib.Decide.{ℕ_discrete}
 use native.Mathlib.Omega.{arith}
 use lib.Dec.{eqb}
 use borrow.Author.Tests.{eq-eqb, ne_eqb}
-use borrow.Author.Rules.{rules}
 use Rattle.sound_parts.proofs.queue.is_full.Goals as goal
 
 one_less : (n c : ℕ) → (c ≡ 0 → ⊥) → eqb n (c - 1) ≡ eqb (n + 1) c

@@ -1,7 +1,6 @@
 -- `sound_parts::queue::is_unserved` meets its contract: by what is waited for.
 -- Rests on model/specs/Test.
 use borrow.Author.Tests.{eq-eqb, ne_eqb}
-use borrow.Author.Rules.{rules}
 use Rattle.model.specs.Test.{is_unserved}
 use Rattle.sound_parts.proofs.queue.is_unserved.Goals as goal
 

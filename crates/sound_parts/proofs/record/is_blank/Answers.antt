@@ -1,6 +1,5 @@
 -- `sound_parts::record::is_blank` meets its contract: field by field.
 -- Rests on Chains.
-use borrow.Author.Rules.{rules}
 use Rattle.sound_parts.proofs.Chains.{twelve}
 use Rattle.sound_parts.proofs.record.is_blank.Goals as goal
 

@@ -1,6 +1,5 @@
 -- `sound_parts::record::is_origin` meets its contract: place by place.
 -- Rests on Chains.
-use borrow.Author.Rules.{rules}
 use Rattle.sound_parts.proofs.Chains.{seven}
 use Rattle.sound_parts.proofs.record.is_origin.Goals as goal
 

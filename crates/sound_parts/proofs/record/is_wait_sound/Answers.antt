@@ -2,7 +2,6 @@
 -- Rests on model/specs/Test.
 use mathlib.Core.Bool.{and_assoc}
 use borrow.Author.Tests.{eq-eqb, ne_eqb}
-use borrow.Author.Rules.{rules}
 use Rattle.sound_parts.proofs.record.is_wait_sound.Goals as goal
 
 pub returns-then-kind-eq-NOTHING : goal.returns-then-kind-eq-NOTHING

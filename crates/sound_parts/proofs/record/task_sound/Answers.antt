@@ -1,7 +1,6 @@
 -- `sound_parts::record::task_sound` meets its contract: by whether the task is created, and test by test.
 -- Rests on Chains.
 use borrow.Author.Tests.{eq-eqb, ne_eqb}
-use borrow.Author.Rules.{rules}
 use Rattle.model.specs.Test.{is_task_sound}
 use Rattle.sound_parts.proofs.Chains.{eleven}
 use Rattle.sound_parts.proofs.record.task_sound.Goals as goal
