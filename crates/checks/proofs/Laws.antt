@@ -1,6 +1,6 @@
 -- What a service reads off the checks that every call has in common, and off a range: the plan so far, the tests, the range's top.
 -- It rests on the definitions of `gate` and `within` alone.
-use mathlib.Core.Bool.{Bool, true, false, cond, ◌&&◌}
+use mathlib.Core.Bool.{Bool, true, false, ◌&&◌}
 use mathlib.Core.Path.{◌≡◌, sym, ◌∙◌}
 use Prim.Native.Nat.{ℕ, ◌≤◌}
 use lib.Dec.{leb}

@@ -1,9 +1,7 @@
 -- The bench table of what the accepted services of tasks and semaphores do, where 01's own cases do not show it, worked out by hand from document 01.
 -- Most rows begin where nobody runs, as all services but four work there; an interrupt form does the same as its task form (Forms).
 use mathlib.Core.List.{List, [], ◌∷◌}
-use Prim.Native.Nat.{ℕ}
 use lib.Dec.{T as So}
-use Rattle.model.specs.declared.Call.{Call}
 use Rattle.model.specs.declared.Call.TheVariants.{TaskCreate, TaskDelete, TaskActivate, TaskExit, TaskTerminate, TaskSuspend, TaskResume, TaskSleep, TaskWakeup, TaskReleaseWait, TaskChangePriority, SysTsliceTicks, SemCreate, SemDelete, SemSignal, SemAcquire, SemPolling}
 use Rattle.model.specs.Code.{minus}
 use Rattle.model.specs.Bench.{suspended, priority, remaining, wakeups, handed, charge, order, queue, counted, shows, wait_code, refuses, Case, all_hold}

@@ -3,7 +3,6 @@
 use mathlib.Core.List.{List, [], ◌∷◌}
 use Prim.Native.Nat.{ℕ}
 use lib.Dec.{T as So}
-use Rattle.model.specs.declared.Call.{Call}
 use Rattle.model.specs.declared.Call.TheVariants.{TaskCreate, TaskDelete, TaskActivate, TaskExit, TaskTerminate, TaskSuspend, TaskResume, TaskSleep, TaskWakeup, TaskReleaseWait, TaskChangePriority, SysTsliceTicks, SemCreate, SemDelete, SemSignal, SemAcquire, OnFlag, ReadyTicks}
 use Rattle.model.specs.declared.FlagService.TheVariants.{Create, Set, Wait}
 use Rattle.model.specs.Task.{dormant, activated}

@@ -1,9 +1,7 @@
 -- The bench table of event flags: vectors of corner cases, worked out by hand, as rows that are computed over the definitions.
 -- A damaged definition is refused here, as 01's own cases are in Table.
 use mathlib.Core.List.{List, [], ◌∷◌}
-use Prim.Native.Nat.{ℕ}
 use lib.Dec.{T as So}
-use Rattle.model.specs.declared.Call.{Call}
 use Rattle.model.specs.declared.Call.TheVariants.{TaskCreate, TaskSuspend, TaskResume, TaskSleep, TaskWakeup, TaskIwakeup, TaskReleaseWait, OnFlag}
 use Rattle.model.specs.declared.FlagService.TheVariants.{Create, Delete, Set, Iset, Clear, Iclear, Wait, WaitPolling, Iwait}
 use Rattle.model.specs.Code.{minus}

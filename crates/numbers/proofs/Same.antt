@@ -1,7 +1,7 @@
 -- The parts cover the table: two tables that hold the same numbers by name are one. So a promise about the state fixes what is lent.
 -- Rests on Laws.
 use mathlib.Core.Path.{◌≡◌, sym, ap, ◌∙◌}
-use mathlib.Core.List.{List, [], ◌∷◌, ◌++◌}
+use mathlib.Core.List.{List, ◌∷◌, ◌++◌}
 use Prim.Native.Nat.{ℕ, ◌+◌}
 use native.Mathlib.Omega.{arith}
 use lib.ListN.{get_or, length, take, drop, take-append-drop, length-drop}

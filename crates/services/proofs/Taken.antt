@@ -1,6 +1,6 @@
 -- What the services take, place by place: the same at every number but a few, and nothing past the fourth field or past the table.
 -- antt computes the tests over all numbers; which fields take a timeout is told in full.
-use Prim.Native.Nat.{ℕ, zero, suc, ◌+◌, ◌<◌, ◌≤◌}
+use Prim.Native.Nat.{ℕ, zero, suc, ◌<◌, ◌≤◌}
 use mathlib.Core.Path.{◌≡◌, refl}
 use mathlib.Core.Bool.{Bool, true, false, ◌||◌}
 use mathlib.Core.List.{List, [], ◌∷◌, ◌++◌}

@@ -1,7 +1,6 @@
 -- `answers::keep` meets its contract: a task's number, or one past them all.
 use native.Mathlib.Omega.{arith}
 use borrow.Author.Tests.{lt-ltb, le-ltb}
-use borrow.Author.Rules.{rules}
 use Rattle.answers.proofs.keep.Goals as goal
 
 pub overflow_add-result : goal.overflow_add-result

@@ -8,7 +8,6 @@ use Rattle.text.specs.Decimal.{decimal}
 use Rattle.text.proofs.Stores.{room, put_none, after_none}
 use Rattle.answers.specs.Slots.{slot_text, kept_text}
 use Rattle.answers.proofs.Placing as law
-use borrow.Author.Rules.{rules}
 use Rattle.answers.proofs.put_row.Goals as goal
 use Rattle.answers.proofs.put_row.Goals.{After-put_byte-b, After-put_decimal-a, After-put_byte, After-put_byte-f, After-put_decimal-e, After-put_byte-d, After-put_slot-c}
 

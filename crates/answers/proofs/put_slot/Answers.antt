@@ -7,7 +7,6 @@ use Rattle.text.specs.Bytes.{bytes}
 use Rattle.text.specs.Decimal.{decimal}
 use Rattle.answers.specs.Slots.{slot_text}
 use Rattle.answers.proofs.Placing as law
-use borrow.Author.Rules.{rules}
 use Rattle.answers.proofs.put_slot.Goals as goal
 
 pub returns-then-v-lt12 : goal.returns-then-v-lt12

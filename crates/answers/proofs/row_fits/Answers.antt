@@ -6,7 +6,6 @@ use lib.ListN.{length}
 use borrow.Author.Tests.{le-leb, leb-true}
 use Rattle.answers.specs.Slots.{kept_text}
 use Rattle.answers.proofs.Widths.{row_most}
-use borrow.Author.Rules.{rules}
 use Rattle.answers.proofs.row_fits.Goals as goal
 
 pub returns-then-has_room : goal.returns-then-has_room

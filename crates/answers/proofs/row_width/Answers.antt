@@ -5,7 +5,6 @@ use native.Mathlib.Omega.{arith}
 use lib.ListN.{length}
 use Rattle.answers.specs.Slots.{kept_text}
 use Rattle.answers.proofs.Widths.{row_width, row_most}
-use borrow.Author.Rules.{rules}
 use Rattle.answers.proofs.row_width.Goals as goal
 use Rattle.answers.proofs.row_width.Goals.{After-width-2}
 

@@ -1,6 +1,5 @@
 -- `answers::slot_kept` meets its contract: the first two codes, or the others.
 use borrow.Author.Tests.{lt-ltb, le-ltb}
-use borrow.Author.Rules.{rules}
 use Rattle.answers.specs.Slots.{slot_in}
 use Rattle.answers.proofs.slot_kept.Goals as goal
 

@@ -4,7 +4,6 @@ use native.Mathlib.Omega.{arith}
 use borrow.Author.Tests.{lt-ltb, le-ltb}
 use Rattle.answers.specs.Slots.{slot_text}
 use Rattle.text.proofs.Digits.{width_most}
-use borrow.Author.Rules.{rules}
 use Rattle.answers.proofs.slot_width.Goals as goal
 
 pub overflow_add-result : goal.overflow_add-result

@@ -1,6 +1,5 @@
 -- `checks::is_timeout` meets its contract: a timeout is within 1 and endless.
 -- Written out, so that another low end is refused as just that.
-use borrow.Author.Rules.{rules}
 use Rattle.checks.proofs.is_timeout.Goals as goal
 
 pub returns : goal.returns

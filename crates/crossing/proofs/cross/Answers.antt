@@ -1,12 +1,9 @@
 -- `crossing::cross` meets its contract. The invariant: what is left of the row crosses off what the whole row does.
 -- Rests on Steps.
-use mathlib.Core.Path.{◌≡◌, refl, sym, ◌∙◌}
-use Prim.Native.Nat.{◌-◌}
+use mathlib.Core.Path.{refl, sym, ◌∙◌}
 use native.Mathlib.Omega.{arith}
-use lib.ListN.{length, drop, get_or, length-set}
-use borrow.Author.Rules.{rules}
+use lib.ListN.{get_or, length-set}
 use borrow.Author.Tests.{not-true, not-false}
-use Rattle.crossing.specs.Crossing.{crosses, crossed}
 use Rattle.crossing.proofs.Steps.{far_listed, crosses_done, crosses_ends, crosses_fails, crosses_on}
 use Rattle.crossing.proofs.cross.Goals as goal
 

@@ -1,12 +1,8 @@
 -- What the loop of `crossing::cross` keeps, and what falls.
-use mathlib.Core.Path.{◌≡◌, refl, sym, ◌∙◌}
+use mathlib.Core.Path.{◌≡◌}
 use Prim.Native.Nat.{◌-◌}
-use native.Mathlib.Omega.{arith}
-use lib.ListN.{length, drop, get_or, length-set}
-use borrow.Author.Rules.{rules}
-use borrow.Author.Tests.{not-true, not-false}
+use lib.ListN.{length, drop}
 use Rattle.crossing.specs.Crossing.{crosses, crossed}
-use Rattle.crossing.proofs.Steps.{far_listed, crosses_done, crosses_ends, crosses_fails, crosses_on}
 use Rattle.crossing.proofs.cross.Given as goal
 
 abbrev pub invariant-loop-i : goal.invariant-loop-i

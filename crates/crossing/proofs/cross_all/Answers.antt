@@ -1,13 +1,11 @@
 -- `crossing::cross_all` meets its contract. The invariant: the rows that are left cross off what is still wanted where all rows
 -- cross off what was. Rests on Steps.
-use mathlib.Core.Path.{◌≡◌, sym, ◌∙◌}
-use Prim.Native.Nat.{◌-◌, ◌≤◌}
+use mathlib.Core.Path.{sym, ◌∙◌}
 use native.Mathlib.Omega.{arith}
 use native.Mathlib.Nat.{sub-zero}
-use lib.ListN.{length, drop}
+use lib.ListN.{drop}
 use borrow.Author.Rules.{rules}
 use borrow.Author.Tests.{not-true, not-false}
-use Rattle.crossing.specs.Crossing.{crosses_all}
 use Rattle.crossing.proofs.Steps.{end_high, end_low, row_fails, row_crossed, rows_done}
 use Rattle.crossing.proofs.cross_all.Goals as goal
 

@@ -1,13 +1,8 @@
 -- What the loop of `crossing::cross_all` keeps, and what falls.
-use mathlib.Core.Path.{◌≡◌, sym, ◌∙◌}
+use mathlib.Core.Path.{◌≡◌}
 use Prim.Native.Nat.{◌-◌, ◌≤◌}
-use native.Mathlib.Omega.{arith}
-use native.Mathlib.Nat.{sub-zero}
 use lib.ListN.{length, drop}
-use borrow.Author.Rules.{rules}
-use borrow.Author.Tests.{not-true, not-false}
 use Rattle.crossing.specs.Crossing.{crosses_all}
-use Rattle.crossing.proofs.Steps.{end_high, end_low, row_fails, row_crossed, rows_done}
 use Rattle.crossing.proofs.cross_all.Given as goal
 
 abbrev pub invariant-loop-l : goal.invariant-loop-l

@@ -1,6 +1,5 @@
 -- `crossing::rest_is_free` meets its contract, whichever way it asks.
 -- Rests on `crossing::zeros_from`.
-use borrow.Author.Rules.{rules}
 use Rattle.crossing.proofs.rest_is_free.Goals as goal
 
 pub returns-then-q-eq24 : goal.returns-then-q-eq24

@@ -2,7 +2,6 @@
 -- Rests on specs/Crossing.
 use Prim.Native.Nat.{◌-◌}
 use native.Mathlib.Omega.{arith}
-use borrow.Author.Rules.{rules}
 use borrow.Author.Tests.{lt-ltb, le-ltb}
 use Rattle.crossing.specs.Crossing.{row_end}
 use Rattle.crossing.proofs.row_end.Goals as goal

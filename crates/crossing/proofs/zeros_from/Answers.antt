@@ -1,12 +1,7 @@
 -- `crossing::zeros_from` meets its contract. The invariant: what was seen and what is left say it of the whole.
 -- Rests on Steps.
-use mathlib.Core.Bool.{◌&&◌}
-use mathlib.Core.Path.{◌≡◌, refl}
-use Prim.Native.Nat.{◌-◌}
+use mathlib.Core.Path.{refl}
 use native.Mathlib.Omega.{arith}
-use lib.ListN.{length, drop}
-use borrow.Author.Rules.{rules}
-use Rattle.model.specs.Test.{zeros}
 use Rattle.crossing.proofs.Steps.{zeros_on, zeros_end}
 use Rattle.crossing.proofs.zeros_from.Goals as goal
 

@@ -1,12 +1,9 @@
 -- What the loop of `crossing::zeros_from` keeps, and what falls.
 use mathlib.Core.Bool.{◌&&◌}
-use mathlib.Core.Path.{◌≡◌, refl}
+use mathlib.Core.Path.{◌≡◌}
 use Prim.Native.Nat.{◌-◌}
-use native.Mathlib.Omega.{arith}
 use lib.ListN.{length, drop}
-use borrow.Author.Rules.{rules}
 use Rattle.model.specs.Test.{zeros}
-use Rattle.crossing.proofs.Steps.{zeros_on, zeros_end}
 use Rattle.crossing.proofs.zeros_from.Given as goal
 
 abbrev pub invariant-loop-i : goal.invariant-loop-i

@@ -1,6 +1,5 @@
 -- `numbers::gather` meets its contract: part by part.
 -- Rests on specs/Numbers.
-use borrow.Author.Rules.{rules}
 use Rattle.numbers.proofs.gather.Goals as goal
 
 pub returns : goal.returns

@@ -2,7 +2,6 @@
 -- Rests on Laws.
 use mathlib.Core.Path.{sym, ◌∙◌}
 use Rattle.numbers.proofs.Laws as law
-use borrow.Author.Rules.{rules}
 use Rattle.numbers.proofs.number_at.Goals as goal
 
 pub returns-then-n-i : goal.returns-then-n-i

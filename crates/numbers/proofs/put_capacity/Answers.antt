@@ -1,6 +1,5 @@
 -- `numbers::put_capacity` meets its contract: its part changes in one place, and every other part lies apart, which is computed.
 -- Rests on Laws.
-use borrow.Author.Rules.{rules}
 use Rattle.numbers.proofs.Laws.{part_same, part_other}
 use Rattle.numbers.proofs.put_capacity.Goals as goal
 

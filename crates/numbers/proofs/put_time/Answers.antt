@@ -4,7 +4,6 @@ use Prim.Native.Nat.{◌<◌}
 use native.Mathlib.Omega.{arith}
 use lib.ListN.{length}
 use lib.Seq.{get_or-set_same}
-use borrow.Author.Rules.{rules}
 use Rattle.numbers.specs.Numbers.{part}
 use Rattle.numbers.proofs.Laws.{part_same, part_other, part_long}
 use Rattle.numbers.proofs.put_time.Goals as goal

@@ -1,7 +1,6 @@
 -- `numbers::put_word` meets its contract: within the table, and past it.
 use mathlib.Core.Path.{sym}
 use lib.Seq.{set_out}
-use borrow.Author.Rules.{rules}
 use Rattle.numbers.proofs.put_word.Goals as goal
 
 pub returns-then-ns-i : goal.returns-then-ns-i

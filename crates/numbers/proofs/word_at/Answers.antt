@@ -1,7 +1,6 @@
 -- `numbers::word_at` meets its contract: within the table, and past it.
 use mathlib.Core.Path.{sym}
 use lib.ListN.{get_or-eq_default}
-use borrow.Author.Rules.{rules}
 use Rattle.numbers.proofs.word_at.Goals as goal
 
 pub returns : goal.returns

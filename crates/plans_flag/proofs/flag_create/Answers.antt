@@ -1,7 +1,6 @@
 -- `plans_flag::flag_create` meets its contract: what every call has in common; its numbers fit once they are in range.
 -- It rests on the contracts of what it calls, on the laws of the checks, and on those of tests.
 use native.Mathlib.Omega.{arith}
-use borrow.Author.Rules.{rules}
 use mathlib.Core.Bool.{not-not}
 use Rattle.model.specs.Service.{flag_create}
 use Rattle.plans_flag.proofs.Laws.{attributes_top}

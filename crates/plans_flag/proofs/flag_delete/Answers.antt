@@ -1,7 +1,6 @@
 -- `plans_flag::flag_delete` meets its contract: what every call has in common; its number fits once it is in range.
 -- It rests on the contracts of what it calls, on the laws of the checks, and on those of tests.
 use native.Mathlib.Omega.{arith}
-use borrow.Author.Rules.{rules}
 use Rattle.model.specs.Service.{flag_delete}
 use Rattle.checks.proofs.Laws.{refuses, passes, is_right, within-top}
 use Rattle.plans_flag.proofs.flag_delete.Goals as goal

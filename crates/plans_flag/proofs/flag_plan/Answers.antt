@@ -1,6 +1,5 @@
 -- `plans_flag::flag_plan` meets its contract: service by service.
 -- It rests on the contracts of the services.
-use borrow.Author.Rules.{rules}
 use Rattle.model.specs.Call.{flag_plan}
 use Rattle.plans_flag.proofs.flag_plan.Goals as goal
 

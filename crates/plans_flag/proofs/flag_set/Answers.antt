@@ -1,7 +1,6 @@
 -- `plans_flag::flag_set` meets its contract: what every call has in common, then whether its first waiter is met.
 -- It rests on the contracts of what it calls, on the laws of the checks, and on those of tests.
 use native.Mathlib.Omega.{arith}
-use borrow.Author.Rules.{rules}
 use Rattle.model.specs.Flag.{with_bits}
 use Rattle.model.specs.Service.{flag_set}
 use Rattle.checks.proofs.Laws.{refuses, passes, is_right, and_left, within-top}

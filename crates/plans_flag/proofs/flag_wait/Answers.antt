@@ -1,7 +1,6 @@
 -- `plans_flag::flag_wait` meets its contract: what every call has in common, then test by test.
 -- It rests on the contracts of what it calls, on the laws of the checks, and on those of tests.
 use native.Mathlib.Omega.{arith}
-use borrow.Author.Rules.{rules}
 use borrow.Author.Tests.{eq-eqb, ne_eqb, leb-true}
 use mathlib.Core.Bool.{not}
 use lib.Dec.{eqb}

@@ -1,5 +1,4 @@
 -- `plans_flag::meets_first` meets its contract: by whether anybody waits.
-use borrow.Author.Rules.{rules}
 use borrow.Author.Tests.{eq-eqb, ne_eqb}
 use Rattle.model.specs.Service.{meets_first}
 use Rattle.plans_flag.proofs.meets_first.Goals as goal

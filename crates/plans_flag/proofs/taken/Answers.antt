@@ -1,5 +1,4 @@
 -- `plans_flag::taken` meets its contract: by the bits that are left.
-use borrow.Author.Rules.{rules}
 use Rattle.model.specs.Service.{taken}
 use Rattle.plans_flag.proofs.taken.Goals as goal
 

@@ -1,7 +1,6 @@
 -- `plans_semaphore::sem_create` meets its contract: what every call has in common; its number fits once it is in range.
 -- It rests on the contracts of what it calls, on the laws of the checks, and on those of tests.
 use native.Mathlib.Omega.{arith}
-use borrow.Author.Rules.{rules}
 use mathlib.Core.Bool.{not-not}
 use Rattle.model.specs.Service.{sem_create}
 use Rattle.checks.proofs.Laws.{refuses, passes, is_right, and_left, within-top}

@@ -1,7 +1,6 @@
 -- `plans_semaphore::signal` meets its contract: what every call has in common, then test by test; a waiter goes before the count.
 -- It rests on the contracts of what it calls, on the laws of the checks, and on those of tests.
 use native.Mathlib.Omega.{arith}
-use borrow.Author.Rules.{rules}
 use borrow.Author.Tests.{eq-eqb, ne_eqb, lt-ltb, le-ltb}
 use Rattle.model.specs.Service.{signal}
 use Rattle.checks.proofs.Laws.{refuses, passes, is_right, within-top}

@@ -1,9 +1,7 @@
-use Prim.Native.Nat.{◌≤◌, ◌-◌}
-use mathlib.Core.Path.{◌≡◌, refl, sym, ◌∙◌}
+use mathlib.Core.Path.{refl, sym, ◌∙◌}
 use borrow.Author.Rules.{rules}
 use native.Mathlib.Omega.{arith}
-use lib.ListN.{length, length-set, take}
-use Rattle.queues.specs.Queues.{queues_of}
+use lib.ListN.{length-set}
 use Rattle.queues.proofs.Bridge as bridge
 use Rattle.queues.proofs.Copied as law
 use Rattle.queues.proofs.gather_levels.Goals as goal

@@ -1,11 +1,9 @@
 -- `queues::put_queue` meets its contract. The invariant: what is left to store makes of the table what the whole queue does.
 -- Rests on Copied.
-use mathlib.Core.Path.{◌≡◌, refl}
-use Prim.Native.Nat.{◌≤◌, ◌+◌, ◌-◌}
+use mathlib.Core.Path.{refl}
 use native.Mathlib.Nat.{add-zero}
 use native.Mathlib.Omega.{arith}
-use lib.ListN.{length, length-set, drop}
-use lib.Seq.{sets}
+use lib.ListN.{length-set}
 use borrow.Author.Rules.{rules}
 use Rattle.queues.proofs.Copied as law
 use Rattle.queues.proofs.put_queue.Goals as goal

@@ -1,12 +1,8 @@
 -- What the loop of `queues::put_queue` keeps, and what falls.
-use mathlib.Core.Path.{◌≡◌, refl}
+use mathlib.Core.Path.{◌≡◌}
 use Prim.Native.Nat.{◌≤◌, ◌+◌, ◌-◌}
-use native.Mathlib.Nat.{add-zero}
-use native.Mathlib.Omega.{arith}
-use lib.ListN.{length, length-set, drop}
+use lib.ListN.{length, drop}
 use lib.Seq.{sets}
-use borrow.Author.Rules.{rules}
-use Rattle.queues.proofs.Copied as law
 use Rattle.queues.proofs.put_queue.Given as goal
 
 abbrev pub invariant-loop-i : goal.invariant-loop-i

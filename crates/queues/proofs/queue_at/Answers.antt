@@ -1,11 +1,8 @@
 -- `queues::queue_at` meets its contract. The invariant: the places passed are copied.
 -- Rests on Copied.
-use mathlib.Core.Path.{◌≡◌, refl}
-use Prim.Native.Nat.{◌≤◌, ◌*◌, ◌-◌}
+use mathlib.Core.Path.{refl}
 use native.Mathlib.Omega.{arith}
-use lib.ListN.{length, length-set, take}
-use borrow.Author.Rules.{rules}
-use Rattle.rows.specs.Flat.{row_in}
+use lib.ListN.{length-set}
 use Rattle.queues.proofs.Copied as law
 use Rattle.queues.proofs.queue_at.Goals as goal
 

@@ -1,11 +1,8 @@
 -- What the loop of `queues::queue_at` keeps, and what falls.
-use mathlib.Core.Path.{◌≡◌, refl}
+use mathlib.Core.Path.{◌≡◌}
 use Prim.Native.Nat.{◌≤◌, ◌*◌, ◌-◌}
-use native.Mathlib.Omega.{arith}
-use lib.ListN.{length, length-set, take}
-use borrow.Author.Rules.{rules}
+use lib.ListN.{length, take}
 use Rattle.rows.specs.Flat.{row_in}
-use Rattle.queues.proofs.Copied as law
 use Rattle.queues.proofs.queue_at.Given as goal
 
 abbrev pub invariant-loop-i : goal.invariant-loop-i

@@ -1,9 +1,6 @@
-use Prim.Native.Nat.{◌≤◌, ◌-◌}
-use mathlib.Core.Path.{◌≡◌, refl, ◌∙◌}
+use mathlib.Core.Path.{refl, ◌∙◌}
 use borrow.Author.Rules.{rules}
 use native.Mathlib.Omega.{arith}
-use lib.ListN.{length, take}
-use Rattle.queues.specs.Queues.{queues_of}
 use Rattle.queues.proofs.Bridge as bridge
 use Rattle.queues.proofs.Copied as law
 use Rattle.queues.proofs.spread_levels.Goals as goal

@@ -1,12 +1,8 @@
 -- What the loop of `queues::spread_waits` keeps, and what falls.
 use Prim.Native.Nat.{◌≤◌, ◌-◌, ◌*◌}
-use mathlib.Core.Path.{◌≡◌, refl, ◌∙◌}
-use borrow.Author.Rules.{rules}
-use native.Mathlib.Omega.{arith}
+use mathlib.Core.Path.{◌≡◌}
 use lib.ListN.{length, take}
 use Rattle.queues.specs.Queues.{wait_rows, waits_of}
-use Rattle.queues.proofs.Bridge as bridge
-use Rattle.queues.proofs.Copied as law
 use Rattle.queues.proofs.spread_waits.Given as goal
 
 abbrev pub invariant-loop-l : goal.invariant-loop-l

@@ -1,5 +1,4 @@
 -- `records::created` meets its contract: by its option.
-use borrow.Author.Rules.{rules}
 use borrow.Author.Tests.{eq-eqb, ne_eqb}
 use Rattle.records.proofs.created.Goals as goal
 

@@ -1,5 +1,4 @@
 -- `records::dormant` meets its contract: its wait is no wait.
-use borrow.Author.Rules.{rules}
 use Rattle.records.proofs.dormant.Goals as goal
 
 pub returns : goal.returns

@@ -1,5 +1,4 @@
 -- `records::flag_row` meets its contract: test by test.
-use borrow.Author.Rules.{rules}
 use borrow.Author.Tests.{le-leb, lt-leb}
 use Rattle.model.specs.Flag.{flag_row}
 use Rattle.records.proofs.flag_row.Goals as goal

@@ -1,5 +1,4 @@
 -- `records::queue_row` meets its contract: test by test.
-use borrow.Author.Rules.{rules}
 use borrow.Author.Tests.{le-leb, lt-leb}
 use Rattle.model.specs.DataQueue.{queue_row}
 use Rattle.records.proofs.queue_row.Goals as goal

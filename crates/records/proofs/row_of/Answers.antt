@@ -1,5 +1,4 @@
 -- `records::row_of` meets its contract: by what is waited for.
-use borrow.Author.Rules.{rules}
 use mathlib.Core.Path.{sym}
 use borrow.Author.Tests.{eq-eqb, ne_eqb}
 use Rattle.laws.proofs.Record.{row_free}

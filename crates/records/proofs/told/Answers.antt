@@ -1,5 +1,4 @@
 -- `records::told` meets its contract: by the news, and for bits by whether they meet the wait.
-use borrow.Author.Rules.{rules}
 use Rattle.model.specs.Task.{told}
 use Rattle.records.proofs.told.Goals as goal
 

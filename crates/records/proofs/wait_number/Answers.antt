@@ -3,7 +3,6 @@
 use native.Mathlib.Omega.{arith}
 use mir.Syntax.{w32}
 use Rattle.laws.proofs.Negated.{negated_fits, negated_back}
-use borrow.Author.Rules.{rules}
 use Rattle.records.proofs.wait_number.Goals as goal
 
 pub overflow_sub-result : goal.overflow_sub-result

@@ -1,10 +1,7 @@
 -- `rows::best` meets its contract: the best from row l on is the best of all.
 -- It rests on the laws of the best row in Flat.
-use mathlib.Core.Path.{◌≡◌, refl, sym, ◌∙◌}
-use Prim.Native.Nat.{◌≤◌, ◌-◌}
+use mathlib.Core.Path.{refl, sym, ◌∙◌}
 use native.Mathlib.Omega.{arith}
-use borrow.Author.Rules.{rules}
-use Rattle.rows.specs.Flat.{best_in}
 use Rattle.rows.proofs.Flat.{best_here, best_on, best_end}
 use Rattle.rows.proofs.best.Goals as goal
 

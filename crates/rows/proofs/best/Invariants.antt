@@ -1,10 +1,7 @@
 -- What the loop of `rows::best` keeps, and what falls.
-use mathlib.Core.Path.{◌≡◌, refl, sym, ◌∙◌}
+use mathlib.Core.Path.{◌≡◌}
 use Prim.Native.Nat.{◌≤◌, ◌-◌}
-use native.Mathlib.Omega.{arith}
-use borrow.Author.Rules.{rules}
 use Rattle.rows.specs.Flat.{best_in}
-use Rattle.rows.proofs.Flat.{best_here, best_on, best_end}
 use Rattle.rows.proofs.best.Given as goal
 
 abbrev pub invariant-loop-l : goal.invariant-loop-l

@@ -1,11 +1,8 @@
 -- `rows::close` meets its contract: the gap moves up to the last place.
 -- It rests on the laws of a gap in laws/Row.
-use mathlib.Core.Path.{◌≡◌, refl, sym, ◌∙◌}
-use Prim.Native.Nat.{◌<◌, ◌-◌}
+use mathlib.Core.Path.{refl, sym, ◌∙◌}
 use native.Mathlib.Omega.{arith}
-use lib.ListN.{length, length-set}
-use borrow.Author.Rules.{rules}
-use Rattle.model.specs.Row.{gap}
+use lib.ListN.{length-set}
 use Rattle.laws.proofs.Row.{gap_last, gap_on}
 use Rattle.rows.proofs.close.Goals as goal
 

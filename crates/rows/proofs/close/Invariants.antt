@@ -1,11 +1,8 @@
 -- What the loop of `rows::close` keeps, and what falls.
-use mathlib.Core.Path.{◌≡◌, refl, sym, ◌∙◌}
+use mathlib.Core.Path.{◌≡◌}
 use Prim.Native.Nat.{◌<◌, ◌-◌}
-use native.Mathlib.Omega.{arith}
-use lib.ListN.{length, length-set}
-use borrow.Author.Rules.{rules}
+use lib.ListN.{length}
 use Rattle.model.specs.Row.{gap}
-use Rattle.laws.proofs.Row.{gap_last, gap_on}
 use Rattle.rows.proofs.close.Given as goal
 
 abbrev pub invariant-loop-j : goal.invariant-loop-j

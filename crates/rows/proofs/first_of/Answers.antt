@@ -3,7 +3,6 @@
 use mathlib.Core.Path.{sym}
 use native.Mathlib.Omega.{arith}
 use lib.ListN.{get_or-eq_default}
-use borrow.Author.Rules.{rules}
 use Rattle.rows.proofs.first_of.Goals as goal
 
 pub returns-then-l-gt-LAST_ROW : goal.returns-then-l-gt-LAST_ROW

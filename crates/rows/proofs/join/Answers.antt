@@ -2,7 +2,6 @@
 -- It rests on `rows::place`.
 use mathlib.Core.Path.{sym}
 use lib.Seq.{set_out}
-use borrow.Author.Rules.{rules}
 use Rattle.model.specs.Row.{joined}
 use Rattle.rows.proofs.join.Goals as goal
 

@@ -4,7 +4,6 @@ use mathlib.Core.Path.{sym, ◌∙◌}
 use mathlib.Core.List.{List}
 use Prim.Native.Nat.{ℕ}
 use native.Mathlib.Omega.{arith}
-use borrow.Author.Rules.{rules}
 use Rattle.model.specs.Row.{joined}
 use Rattle.rows.proofs.Flat.{part_changed, joined_in_none, joined_in_in}
 use Rattle.rows.proofs.join_row.Goals as goal

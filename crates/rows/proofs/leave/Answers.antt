@@ -1,7 +1,6 @@
 -- `rows::leave` meets its contract: the place of who leaves is closed, the first place as any other.
 -- It rests on `rows::place`, `rows::close` and the laws of a gap in laws/Row.
 use mathlib.Core.Path.{sym}
-use borrow.Author.Rules.{rules}
 use Rattle.model.specs.Row.{left}
 use Rattle.laws.proofs.Row.{gap_out}
 use Rattle.rows.proofs.leave.Goals as goal

@@ -2,10 +2,9 @@
 -- It rests on the laws of a search in laws/Row.
 use mathlib.Core.Path.{◌≡◌}
 use mathlib.Core.List.{List}
-use Prim.Native.Nat.{ℕ, suc, ◌<◌, ◌≤◌, ◌-◌, ◌+◌}
+use Prim.Native.Nat.{ℕ, suc, ◌<◌, ◌+◌}
 use native.Mathlib.Omega.{arith}
 use lib.ListN.{length, drop, get_or}
-use borrow.Author.Rules.{rules}
 use Rattle.model.specs.Row.{place}
 use Rattle.laws.proofs.Row.{place_here, place_on, place_end}
 use Rattle.rows.proofs.place.Goals as goal

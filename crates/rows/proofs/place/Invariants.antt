@@ -1,12 +1,8 @@
 -- What the loop of `rows::place` keeps, and what falls.
 use mathlib.Core.Path.{◌≡◌}
-use mathlib.Core.List.{List}
-use Prim.Native.Nat.{ℕ, suc, ◌<◌, ◌≤◌, ◌-◌, ◌+◌}
-use native.Mathlib.Omega.{arith}
-use lib.ListN.{length, drop, get_or}
-use borrow.Author.Rules.{rules}
+use Prim.Native.Nat.{◌≤◌, ◌-◌, ◌+◌}
+use lib.ListN.{length, drop}
 use Rattle.model.specs.Row.{place}
-use Rattle.laws.proofs.Row.{place_here, place_on, place_end}
 use Rattle.rows.proofs.place.Given as goal
 
 abbrev pub invariant-loop-i : goal.invariant-loop-i

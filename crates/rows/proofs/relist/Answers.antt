@@ -1,6 +1,5 @@
 -- `rows::relist` meets its contract: by whether the two rows are one.
 -- It rests on `rows::leave_row` and `rows::join_row`.
-use borrow.Author.Rules.{rules}
 use borrow.Author.Tests.{eq-eqb, ne_eqb}
 use Rattle.rows.specs.Flat.{relisted_in}
 use Rattle.rows.proofs.relist.Goals as goal

@@ -1,7 +1,6 @@
 -- `rows::turn` meets its contract: the first leaves and joins.
 -- It rests on `rows::leave` and `rows::join`.
 use mathlib.Core.Path.{sym}
-use borrow.Author.Rules.{rules}
 use Rattle.model.specs.Row.{turned}
 use Rattle.laws.proofs.Row.{turned_none}
 use Rattle.rows.proofs.turn.Goals as goal

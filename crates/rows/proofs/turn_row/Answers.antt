@@ -1,7 +1,6 @@
 -- `rows::turn_row` meets its contract: its row is lent as a part of the table.
 -- It rests on `rows::turn` and the laws of a lent row in Flat.
 use native.Mathlib.Omega.{arith}
-use borrow.Author.Rules.{rules}
 use Rattle.model.specs.Row.{turned}
 use Rattle.rows.proofs.Flat.{part_changed}
 use Rattle.rows.proofs.turn_row.Goals as goal

@@ -1,10 +1,7 @@
 -- `stored::gather` meets its contract. The invariant: the records passed are copied.
-use Prim.Native.Nat.{◌≤◌, ◌-◌}
-use mathlib.Core.Path.{◌≡◌, refl}
-use borrow.Author.Rules.{rules}
+use mathlib.Core.Path.{refl}
 use native.Mathlib.Omega.{arith}
-use lib.ListN.{length, length-set, take}
-use Rattle.stored.specs.Stored.{tasks_of}
+use lib.ListN.{length-set}
 use Rattle.stored.proofs.Laws as law
 use Rattle.stored.proofs.gather.Goals as goal
 

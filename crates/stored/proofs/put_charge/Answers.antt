@@ -2,7 +2,6 @@
 use mathlib.Core.Path.{sym}
 use native.Mathlib.Omega.{arith}
 use lib.Seq.{set_out}
-use borrow.Author.Rules.{rules}
 use Rattle.stored.specs.Stored.{tasks_of}
 use Rattle.stored.proofs.Laws.{length_tasks, recharges}
 use Rattle.stored.proofs.put_charge.Goals as goal

@@ -3,7 +3,6 @@ use mathlib.Core.Path.{sym}
 use native.Mathlib.Omega.{arith}
 use lib.ListN.{length-set}
 use lib.Seq.{set_out}
-use borrow.Author.Rules.{rules}
 use Rattle.stored.specs.Stored.{tasks_of}
 use Rattle.stored.proofs.Laws.{length_tasks, marks}
 use Rattle.stored.proofs.put_marks.Goals as goal

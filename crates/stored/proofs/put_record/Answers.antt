@@ -4,7 +4,6 @@ use mathlib.Core.Path.{sym}
 use native.Mathlib.Omega.{arith}
 use lib.Seq.{set_out}
 use Rattle.stored.proofs.Laws.{length_tasks, wrote}
-use borrow.Author.Rules.{rules}
 use Rattle.stored.proofs.put_record.Goals as goal
 
 pub returns-then-t-gt24 : goal.returns-then-t-gt24

@@ -2,7 +2,6 @@
 use mathlib.Core.Path.{sym, ◌∙◌}
 use native.Mathlib.Omega.{arith}
 use Rattle.stored.proofs.Laws.{read, read_past}
-use borrow.Author.Rules.{rules}
 use Rattle.stored.proofs.record_at.Goals as goal
 
 pub returns-then-t-gt24 : goal.returns-then-t-gt24

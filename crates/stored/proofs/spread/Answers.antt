@@ -1,10 +1,8 @@
 -- `stored::spread` meets its contract. The invariant: the records passed are copied.
-use Prim.Native.Nat.{◌≤◌, ◌-◌}
 use mathlib.Core.Path.{◌≡◌, refl}
 use borrow.Author.Rules.{rules}
 use native.Mathlib.Omega.{arith}
-use lib.ListN.{length, take}
-use Rattle.stored.specs.Stored.{tasks_of}
+use lib.ListN.{length}
 use Rattle.stored.proofs.Laws as law
 use Rattle.stored.proofs.spread.Goals as goal
 

@@ -1,11 +1,8 @@
 -- What the loop of `stored::spread` keeps, and what falls.
 use Prim.Native.Nat.{◌≤◌, ◌-◌}
-use mathlib.Core.Path.{◌≡◌, refl}
-use borrow.Author.Rules.{rules}
-use native.Mathlib.Omega.{arith}
-use lib.ListN.{length, take}
+use mathlib.Core.Path.{◌≡◌}
+use lib.ListN.{take}
 use Rattle.stored.specs.Stored.{tasks_of}
-use Rattle.stored.proofs.Laws as law
 use Rattle.stored.proofs.spread.Given as goal
 
 abbrev pub invariant-loop-t : goal.invariant-loop-t

@@ -5,7 +5,6 @@ use borrow.Author.Tests.{eq-eqb, ne_eqb}
 use Rattle.text.proofs.Places.{is_within}
 use Rattle.lines.specs.Fields.{comma_field}
 use Rattle.text.proofs.Reading.{got}
-use borrow.Author.Rules.{rules}
 use Rattle.lines.proofs.fields.comma_field.Goals as goal
 
 pub returns-in_default : goal.returns-in_default

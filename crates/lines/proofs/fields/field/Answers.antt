@@ -9,7 +9,6 @@ use Rattle.services.specs.declared.takes.Takes.{Takes}
 use Rattle.services.specs.declared.takes.Takes.TheVariants.{Blank, Plain, Timeout}
 use Rattle.services.specs.contracts.takes.Takes as takes
 use Rattle.lines.specs.Fields.{said_of, meant, field_of}
-use borrow.Author.Rules.{rules}
 use borrow.Enum.Refused.{opened}
 use Rattle.lines.proofs.fields.field.Goals as goal
 

@@ -10,7 +10,6 @@ use Rattle.lines.specs.declared.fields.End.TheVariants.{Closes}
 use Rattle.lines.specs.Fields.{field_of, end_of, last_field}
 use Rattle.text.proofs.Reading.{got}
 use Rattle.lines.proofs.Within.{after, field_in, end_in}
-use borrow.Author.Rules.{rules}
 use Rattle.lines.proofs.fields.last_field.Goals as goal
 use Rattle.lines.proofs.fields.last_field.Goals.{In-Digits, In-Closes}
 

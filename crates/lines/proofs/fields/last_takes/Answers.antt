@@ -1,6 +1,5 @@
 -- `lines::fields::last_takes` meets its contract: by whether the lines are wide.
 -- It rests on the definition alone.
-use borrow.Author.Rules.{rules}
 use Rattle.lines.proofs.fields.last_takes.Goals as goal
 
 pub returns-then-wide : goal.returns-then-wide

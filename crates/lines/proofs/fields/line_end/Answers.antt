@@ -3,7 +3,6 @@
 use borrow.Author.Tests.{eq-eqb, ne_eqb}
 use Rattle.lines.specs.Fields.{end_of}
 use Rattle.text.proofs.Reading.{got}
-use borrow.Author.Rules.{rules}
 use Rattle.lines.proofs.fields.line_end.Goals as goal
 
 pub returns-then-s-eq0 : goal.returns-then-s-eq0

@@ -1,6 +1,5 @@
 -- `lines::fields::meant` meets its contract: case by case.
 -- It rests on the definition alone.
-use borrow.Author.Rules.{rules}
 use Rattle.lines.proofs.fields.meant.Goals as goal
 
 pub returns-in-Says : goal.returns-in-Says

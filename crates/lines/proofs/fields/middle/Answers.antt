@@ -11,7 +11,6 @@ use Rattle.services.specs.contracts.takes.Takes as takes
 use Rattle.lines.specs.Fields.{comma_field, zero_if_blank, middle_of}
 use Rattle.text.proofs.Reading.{got}
 use Rattle.lines.proofs.Within.{by_table}
-use borrow.Author.Rules.{rules}
 use borrow.Enum.Refused.{opened}
 use Rattle.lines.proofs.fields.middle.Goals as goal
 

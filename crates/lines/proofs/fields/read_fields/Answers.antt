@@ -11,7 +11,6 @@ use Rattle.lines.specs.declared.fields.Tail.TheVariants.{Two}
 use Rattle.lines.specs.Fields.{comma_field, tail_of, fields_of}
 use Rattle.text.proofs.Reading.{got}
 use Rattle.lines.proofs.Within.{after, by_table, comma_in, tail_in}
-use borrow.Author.Rules.{rules}
 use Rattle.lines.proofs.fields.read_fields.Goals as goal
 use Rattle.lines.proofs.fields.read_fields.Goals.{In-Digits, In-Digits-comma_field, In-Two}
 

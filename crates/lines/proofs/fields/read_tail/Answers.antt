@@ -15,7 +15,6 @@ use Rattle.lines.specs.Fields.{last_field, middle_of, tail_of}
 use Rattle.text.proofs.Reading.{got}
 use Rattle.lines.proofs.Within.{after, by_table, last_in}
 use Rattle.lines.proofs.Tails.{middle_in, no_middle, after_middle}
-use borrow.Author.Rules.{rules}
 use Rattle.lines.proofs.fields.read_tail.Goals as goal
 use Rattle.lines.proofs.fields.read_tail.Goals.{In-Digits, In-Digits-last_field}
 

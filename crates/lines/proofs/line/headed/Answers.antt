@@ -14,7 +14,6 @@ use Rattle.lines.specs.Fields.{end_of}
 use Rattle.lines.specs.Lines.{headed}
 use Rattle.text.proofs.Reading.{got}
 use Rattle.lines.proofs.Within.{after, end_in}
-use borrow.Author.Rules.{rules}
 use Rattle.lines.proofs.line.headed.Goals as goal
 use Rattle.lines.proofs.line.headed.Goals.{Else-not-begins, In-Closes}
 

@@ -2,7 +2,6 @@
 -- It rests on the definition alone.
 use Rattle.lines.specs.Lines.{letter_of}
 use Rattle.text.proofs.Reading.{got}
-use borrow.Author.Rules.{rules}
 use Rattle.lines.proofs.line.read_letter.Goals as goal
 
 pub returns-then-begins : goal.returns-then-begins

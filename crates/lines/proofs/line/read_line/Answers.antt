@@ -16,7 +16,6 @@ use Rattle.lines.specs.Fields.{fields_of}
 use Rattle.lines.specs.Lines.{letter_of, line_of}
 use Rattle.text.proofs.Reading.{got}
 use Rattle.lines.proofs.Within.{after, letter_in, name_in_lem, fields_in}
-use borrow.Author.Rules.{rules}
 use Rattle.lines.proofs.line.read_line.Goals as goal
 use Rattle.lines.proofs.line.read_line.Goals.{In-Is, In-Known, In-Four}
 

@@ -1,11 +1,8 @@
 -- `numbers::copies::copy_part` meets its contract. The invariant: the places passed are copied.
 -- Rests on Copied.
-use mathlib.Core.Path.{◌≡◌, refl}
-use Prim.Native.Nat.{◌≤◌, ◌-◌}
+use mathlib.Core.Path.{refl}
 use native.Mathlib.Omega.{arith}
-use lib.ListN.{length, length-set, take}
-use borrow.Author.Rules.{rules}
-use Rattle.numbers.specs.Numbers.{part}
+use lib.ListN.{length-set}
 use Rattle.numbers.proofs.Copied as law
 use Rattle.numbers.proofs.copies.copy_part.Goals as goal
 

@@ -1,11 +1,8 @@
 -- What the loop of `numbers::copies::copy_part` keeps, and what falls.
-use mathlib.Core.Path.{◌≡◌, refl}
+use mathlib.Core.Path.{◌≡◌}
 use Prim.Native.Nat.{◌≤◌, ◌-◌}
-use native.Mathlib.Omega.{arith}
-use lib.ListN.{length, length-set, take}
-use borrow.Author.Rules.{rules}
+use lib.ListN.{length, take}
 use Rattle.numbers.specs.Numbers.{part}
-use Rattle.numbers.proofs.Copied as law
 use Rattle.numbers.proofs.copies.copy_part.Given as goal
 
 abbrev pub invariant-loop-i : goal.invariant-loop-i

@@ -1,12 +1,9 @@
 -- `numbers::copies::put_part` meets its contract. The invariant: what is left to store makes of the table what the whole does.
 -- Rests on Copied.
-use mathlib.Core.Path.{◌≡◌, refl}
-use Prim.Native.Nat.{◌≤◌, ◌+◌, ◌-◌}
+use mathlib.Core.Path.{refl}
 use native.Mathlib.Nat.{add-zero}
 use native.Mathlib.Omega.{arith}
-use lib.ListN.{length, length-set, drop}
-use lib.Seq.{sets}
-use borrow.Author.Rules.{rules}
+use lib.ListN.{length-set}
 use Rattle.numbers.proofs.Copied as law
 use Rattle.numbers.proofs.copies.put_part.Goals as goal
 

@@ -3,7 +3,6 @@
 use mathlib.Core.Path.{refl, ap, ◌∙◌}
 use Rattle.model.specs.DataQueue.{no_elements}
 use Rattle.numbers.specs.Numbers.{held_in}
-use borrow.Author.Rules.{rules}
 use Rattle.numbers.proofs.Places as law
 use Rattle.numbers.proofs.elements.clear_elements.Goals as goal
 

@@ -1,7 +1,6 @@
 -- `numbers::elements::element_at` meets its contract: past the queues, past a queue's places, and within them.
 -- Rests on Places.
 use mathlib.Core.Path.{sym, ◌∙◌}
-use borrow.Author.Rules.{rules}
 use Rattle.numbers.proofs.Places as law
 use Rattle.numbers.proofs.elements.element_at.Goals as goal
 

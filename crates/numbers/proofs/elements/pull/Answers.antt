@@ -1,13 +1,10 @@
 -- `numbers::elements::pull` meets its contract: the gap moves up to the last place.
 -- It rests on the laws of a gap in laws/Row.
-use mathlib.Core.Path.{◌≡◌, refl, sym, ◌∙◌}
-use Prim.Native.Nat.{◌<◌, ◌-◌}
+use mathlib.Core.Path.{refl, sym, ◌∙◌}
 use native.Mathlib.Omega.{arith}
-use lib.ListN.{length, length-set}
-use Rattle.model.specs.Row.{gap}
+use lib.ListN.{length-set}
 use Rattle.model.specs.DataQueue.{pulled}
 use Rattle.laws.proofs.Row.{gap_last, gap_on}
-use borrow.Author.Rules.{rules}
 use Rattle.numbers.proofs.elements.pull.Goals as goal
 
 pub loop-i-preserved : goal.loop-i-preserved

@@ -1,12 +1,8 @@
 -- What the loop of `numbers::elements::pull` keeps, and what falls.
-use mathlib.Core.Path.{◌≡◌, refl, sym, ◌∙◌}
+use mathlib.Core.Path.{◌≡◌}
 use Prim.Native.Nat.{◌<◌, ◌-◌}
-use native.Mathlib.Omega.{arith}
-use lib.ListN.{length, length-set}
+use lib.ListN.{length}
 use Rattle.model.specs.Row.{gap}
-use Rattle.model.specs.DataQueue.{pulled}
-use Rattle.laws.proofs.Row.{gap_last, gap_on}
-use borrow.Author.Rules.{rules}
 use Rattle.numbers.proofs.elements.pull.Given as goal
 
 abbrev pub invariant-loop-i : goal.invariant-loop-i

@@ -4,7 +4,6 @@ use mathlib.Core.List.{List}
 use Prim.Native.Nat.{ℕ}
 use native.Mathlib.Omega.{arith}
 use Rattle.model.specs.DataQueue.{pulled}
-use borrow.Author.Rules.{rules}
 use Rattle.numbers.proofs.Places as law
 use Rattle.numbers.proofs.elements.pull_in.Goals as goal
 

@@ -1,5 +1,4 @@
 -- `numbers::elements::refill` meets its contract: by those of its two steps.
-use borrow.Author.Rules.{rules}
 use Rattle.model.specs.DataQueue.{put}
 use Rattle.numbers.proofs.elements.refill.Goals as goal
 

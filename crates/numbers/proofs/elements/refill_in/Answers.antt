@@ -5,7 +5,6 @@ use mathlib.Core.List.{List}
 use Prim.Native.Nat.{ℕ}
 use native.Mathlib.Omega.{arith}
 use Rattle.model.specs.DataQueue.{put, pulled}
-use borrow.Author.Rules.{rules}
 use Rattle.numbers.proofs.Places as law
 use Rattle.numbers.proofs.elements.refill_in.Goals as goal
 

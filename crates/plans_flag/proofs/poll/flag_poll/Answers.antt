@@ -1,7 +1,6 @@
 -- `plans_flag::flag_poll` meets its contract: what every call has in common, then test by test.
 -- It rests on the contracts of what it calls, on the laws of the checks, and on those of tests.
 use native.Mathlib.Omega.{arith}
-use borrow.Author.Rules.{rules}
 use borrow.Author.Tests.{not-true, not-false}
 use Rattle.model.specs.Service.{flag_poll}
 use Rattle.checks.proofs.Laws.{refuses, passes, is_right, and_left, within-top}

@@ -1,6 +1,6 @@
 -- `plans_task::create` meets its contract: what every call has in common; its numbers fit once they are in range.
 -- It rests on the contracts of what it calls, on the laws of the checks, and on those of tests.
-use Rattle.std.proofs.Common.{arith, rules, leb-true}
+use Rattle.std.proofs.Common.{arith, leb-true}
 use mathlib.Core.Bool.{not-not}
 use Rattle.model.specs.Service.{create}
 use Rattle.checks.proofs.Laws.{refuses, passes, is_right, and_left, and_right, within-top}

@@ -1,6 +1,6 @@
 -- `plans_task::delete` meets its contract: what every call has in common, then test by test.
 -- It rests on the contracts of what it calls, on the laws of the checks, and on those of tests.
-use Rattle.std.proofs.Common.{arith, rules, eq-eqb, ne_eqb}
+use Rattle.std.proofs.Common.{arith, eq-eqb, ne_eqb}
 use Rattle.model.specs.Service.{delete}
 use Rattle.checks.proofs.Laws.{refuses, passes, is_right, within-top}
 use Rattle.plans_task.proofs.life.delete.Goals as goal

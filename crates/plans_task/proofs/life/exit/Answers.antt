@@ -1,6 +1,6 @@
 -- `plans_task::exit` meets its contract: what every call has in common, then test by test.
 -- It rests on the contracts of what it calls, on the laws of the checks, and on those of tests.
-use Rattle.std.proofs.Common.{rules, eq-eqb, ne_eqb}
+use Rattle.std.proofs.Common.{eq-eqb, ne_eqb}
 use Rattle.model.specs.Service.{exit}
 use Rattle.checks.proofs.Laws.{refuses, passes}
 use Rattle.plans_task.proofs.life.exit.Goals as goal

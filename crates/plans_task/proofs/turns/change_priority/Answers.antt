@@ -1,6 +1,6 @@
 -- `plans_task::change_priority` meets its contract: what every call has in common, then test by test.
 -- It rests on the contracts of what it calls, on the laws of the checks, and on those of tests.
-use Rattle.std.proofs.Common.{arith, rules, eq-eqb, ne_eqb, leb-true}
+use Rattle.std.proofs.Common.{arith, eq-eqb, ne_eqb, leb-true}
 use Rattle.model.specs.Service.{change_priority}
 use Rattle.checks.proofs.Laws.{refuses, passes, is_right, and_left, and_right, within-top}
 use Rattle.plans_task.proofs.turns.change_priority.Goals as goal

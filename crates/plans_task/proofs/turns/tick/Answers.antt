@@ -1,6 +1,5 @@
 -- `plans_task::tick` meets its contract: what every call has in common.
 -- It rests on the contracts of what it calls, on the laws of the checks, and on those of tests.
-use Rattle.std.proofs.Common.{rules}
 use Rattle.model.specs.Service.{tick}
 use Rattle.checks.proofs.Laws.{refuses, passes}
 use Rattle.plans_task.proofs.turns.tick.Goals as goal

@@ -1,6 +1,6 @@
 -- `plans_task::tslice_ticks` meets its contract: what every call has in common; its level fits once it is in range.
 -- It rests on the contracts of what it calls, on the laws of the checks, and on those of tests.
-use Rattle.std.proofs.Common.{arith, rules}
+use Rattle.std.proofs.Common.{arith}
 use Rattle.model.specs.Service.{tslice_ticks}
 use Rattle.checks.proofs.Laws.{refuses, passes, is_right, and_left, within-top}
 use Rattle.plans_task.proofs.turns.tslice_ticks.Goals as goal

@@ -1,6 +1,6 @@
 -- `plans_task::sleep` meets its contract: what every call has in common, then test by test; a wakeup that is counted spares the wait.
 -- It rests on the contracts of what it calls, on the laws of the checks, and on those of tests.
-use Rattle.std.proofs.Common.{rules, eq-eqb, ne_eqb}
+use Rattle.std.proofs.Common.{eq-eqb, ne_eqb}
 use Rattle.model.specs.Service.{sleep}
 use Rattle.checks.proofs.Laws.{refuses, passes}
 use Rattle.plans_task.proofs.waits.sleep.Goals as goal

@@ -1,6 +1,6 @@
 -- `plans_task::wakeup` meets its contract: what every call has in common, then test by test; a sleep goes before the wakeup count.
 -- It rests on the contracts of what it calls, on the laws of the checks, and on those of tests.
-use Rattle.std.proofs.Common.{arith, rules, eq-eqb, ne_eqb}
+use Rattle.std.proofs.Common.{arith, eq-eqb, ne_eqb}
 use Rattle.model.specs.Service.{wakeup}
 use Rattle.checks.proofs.Laws.{refuses, passes, is_right, within-top}
 use Rattle.plans_task.proofs.waits.wakeup.Goals as goal

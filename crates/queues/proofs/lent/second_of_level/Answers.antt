@@ -2,7 +2,6 @@
 use mathlib.Core.Path.{sym, ◌∙◌}
 use native.Mathlib.Omega.{arith}
 use lib.ListN.{get_or-eq_default}
-use borrow.Author.Rules.{rules}
 use Rattle.queues.proofs.Bridge as bridge
 use Rattle.queues.proofs.lent.second_of_level.Goals as goal
 

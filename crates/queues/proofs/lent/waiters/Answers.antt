@@ -5,7 +5,6 @@ use native.Mathlib.Omega.{arith}
 use Rattle.model.specs.declared.Queue.{Queue}
 use Rattle.queues.specs.Queues.{wait_rows}
 use Rattle.queues.proofs.Bridge.{length_queues, row_queue, row_past}
-use borrow.Author.Rules.{rules}
 use Rattle.queues.proofs.lent.waiters.Goals as goal
 
 pub returns-then-l-gt28 : goal.returns-then-l-gt28

@@ -4,7 +4,6 @@ use Rattle.model.specs.Services.{flags}
 use Rattle.services.specs.Names.{label, labelled}
 use Rattle.services.proofs.Keys.{keyed, at_flag, no_flag}
 use Rattle.text.proofs.Reading.{got}
-use borrow.Author.Rules.{rules}
 use Rattle.services.proofs.names.flag_name.Goals as goal
 
 pub returns-then-begins : goal.returns-then-begins

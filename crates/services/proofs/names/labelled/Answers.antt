@@ -2,7 +2,6 @@
 -- It rests on the definition alone.
 use Rattle.services.specs.Names.{labelled}
 use Rattle.text.proofs.Reading.{got}
-use borrow.Author.Rules.{rules}
 use Rattle.services.proofs.names.labelled.Goals as goal
 
 pub returns-then-begins : goal.returns-then-begins

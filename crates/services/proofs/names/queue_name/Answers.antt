@@ -4,7 +4,6 @@ use Rattle.model.specs.Services.{queues}
 use Rattle.services.specs.Names.{label, labelled}
 use Rattle.services.proofs.Keys.{keyed, at_queue, no_queue_lem}
 use Rattle.text.proofs.Reading.{got}
-use borrow.Author.Rules.{rules}
 use Rattle.services.proofs.names.queue_name.Goals as goal
 
 pub returns-then-begins : goal.returns-then-begins

@@ -3,7 +3,6 @@
 use Rattle.model.proofs.Words.{table}
 use Rattle.services.specs.Names.{label, labelled, name_in}
 use Rattle.services.proofs.Keys.{keyed, at_family, no_family}
-use borrow.Author.Rules.{rules}
 use Rattle.services.proofs.names.read_name.Goals as goal
 
 pub returns-in-97 : goal.returns-in-97

@@ -3,7 +3,6 @@
 use Rattle.model.specs.Services.{semaphores}
 use Rattle.services.specs.Names.{label, labelled}
 use Rattle.services.proofs.Keys.{keyed, at_semaphore, no_semaphore}
-use borrow.Author.Rules.{rules}
 use Rattle.services.proofs.names.semaphore_name.Goals as goal
 
 pub returns-in-114 : goal.returns-in-114

@@ -3,7 +3,6 @@
 use Rattle.model.specs.Services.{tasks}
 use Rattle.services.specs.Names.{label, labelled}
 use Rattle.services.proofs.Keys.{keyed, at_task, no_task_lem}
-use borrow.Author.Rules.{rules}
 use Rattle.services.proofs.names.task_name.Goals as goal
 
 pub returns-in-196 : goal.returns-in-196

@@ -4,7 +4,6 @@ use mathlib.Core.Path.{sym}
 use native.Mathlib.Omega.{arith}
 use Rattle.services.proofs.Numbers.{above}
 use Rattle.services.proofs.Taken.{past_d}
-use borrow.Author.Rules.{rules}
 use Rattle.services.proofs.takes.takes_at.Goals as goal
 
 pub returns-in-0 : goal.returns-in-0

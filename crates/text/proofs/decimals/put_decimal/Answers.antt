@@ -1,6 +1,6 @@
 -- `text::decimals::put_decimal` meets its contract. The invariant: with the digits of what is left stored, the buffer is as it shall be; k is the place after them.
 -- It rests on the laws of stores and of a number's digits.
-use Prim.Native.Nat.{ℕ, ◌+◌, ◌≤◌, ◌-◌, ◌/◌, ◌%◌}
+use Prim.Native.Nat.{ℕ, ◌+◌, ◌-◌, ◌/◌, ◌%◌}
 use mathlib.Core.Path.{◌≡◌, refl, ap, sym, ◌∙◌}
 use mathlib.Core.List.{List}
 use native.Mathlib.Omega.{arith}
@@ -10,7 +10,6 @@ use lib.Seq.{sets}
 use Rattle.text.specs.Decimal.{decimal}
 use Rattle.text.proofs.Digits.{decimal_one, decimal_step, width_one, width_step}
 use Rattle.text.proofs.Stores.{set_then, room, put_room, after_room, put_none, after_none}
-use borrow.Author.Rules.{rules}
 use Rattle.text.proofs.decimals.put_decimal.Goals as goal
 use Rattle.text.proofs.decimals.put_decimal.Goals.{After-has_room}
 

@@ -1,11 +1,9 @@
 -- `text::number::read_number` meets its contract. The invariant: what is left gives what the whole gives.
 -- It rests on the laws of reading, digit by digit.
-use Prim.Native.Nat.{◌≤◌, ◌<◌, ◌-◌}
 use mathlib.Core.Path.{◌∙◌}
-use mathlib.Core.Logic.{inl, inr}
 use native.Mathlib.Omega.{arith}
-use lib.ListN.{length, get_or}
-use Rattle.text.proofs.Reading.{Left, no_digit, digit_least, digit_most, a_digit, left_all, left_on, left_stop, left_end, left_over, number_empty}
+use lib.ListN.{get_or}
+use Rattle.text.proofs.Reading.{no_digit, digit_least, digit_most, a_digit, left_all, left_on, left_stop, left_end, left_over, number_empty}
 use borrow.Author.Rules.{rules}
 use Rattle.text.proofs.number.read_number.Goals as goal
 
@@ -32,7 +30,6 @@ loop-i-preserved c = (omega arith, omega (arith, c.if-more-gt4294967295.false), 
 
 pub returns : goal.returns
 returns c =
-    
     c.numeral.ensures
     ∙ elim c.loop-i-test.branch [
       | goal.else-loop-i-test e ↦ left_end _ _ _ c.loop-i.invariant.2 c.loop-i.invariant.1 e.loop-i-test.false

@@ -1,13 +1,8 @@
 -- `text::words::begins` meets its contract. The invariant: what is the same so far and what is left of both decide.
 -- It rests on the laws of `begins`.
-use Prim.Native.Nat.{◌≤◌, ◌-◌}
-use mathlib.Core.Path.{◌≡◌, refl, sym, ◌∙◌}
-use mathlib.Core.Bool.{◌&&◌}
+use mathlib.Core.Path.{refl, sym, ◌∙◌}
 use native.Mathlib.Omega.{arith}
-use lib.ListN.{length, drop}
-use Rattle.text.specs.Bytes.{begins}
 use Rattle.text.proofs.Begins.{begins_short, begins_end, begins_next, and-true}
-use borrow.Author.Rules.{rules}
 use Rattle.text.proofs.words.begins.Goals as goal
 
 pub returns-then-s-t : goal.returns-then-s-t

@@ -1,12 +1,9 @@
 -- What the loop of `text::words::begins` keeps, and what falls.
 use Prim.Native.Nat.{◌≤◌, ◌-◌}
-use mathlib.Core.Path.{◌≡◌, refl, sym, ◌∙◌}
+use mathlib.Core.Path.{◌≡◌}
 use mathlib.Core.Bool.{◌&&◌}
-use native.Mathlib.Omega.{arith}
 use lib.ListN.{length, drop}
 use Rattle.text.specs.Bytes.{begins}
-use Rattle.text.proofs.Begins.{begins_short, begins_end, begins_next, and-true}
-use borrow.Author.Rules.{rules}
 use Rattle.text.proofs.words.begins.Given as goal
 
 abbrev pub invariant-loop-i : goal.invariant-loop-i

@@ -2,7 +2,6 @@
 -- It rests on lib.ListN.
 use mathlib.Core.Path.{sym}
 use lib.ListN.{get_or-eq_default}
-use borrow.Author.Rules.{rules}
 use Rattle.text.proofs.words.byte_at.Goals as goal
 
 pub returns : goal.returns

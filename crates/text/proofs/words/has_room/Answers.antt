@@ -1,6 +1,6 @@
 -- `text::words::has_room` meets its contract: the sum may pass the machine's range, the difference can't.
 -- It rests on nothing.
-use Prim.Native.Nat.{◌+◌, ◌-◌}
+use Prim.Native.Nat.{◌+◌}
 use native.Mathlib.Omega.{arith}
 use borrow.Author.Tests.{lt-leb}
 use Rattle.text.proofs.Stores.{leb_moved}

@@ -5,7 +5,6 @@ use mathlib.Core.List.{[], ◌∷◌}
 use native.Mathlib.Omega.{arith}
 use lib.ListN.{length}
 use borrow.Author.Tests.{lt-leb}
-use borrow.Author.Rules.{rules}
 use Rattle.text.specs.Bytes.{put, place_after}
 use Rattle.text.proofs.Stores.{put_room, after_room}
 use Rattle.text.proofs.words.put_byte.Goals as goal

@@ -1,13 +1,10 @@
 -- `text::words::put_text` meets its contract. The invariant: with what is left of the text stored, the buffer is as it shall be.
 -- It rests on the laws of stores.
-use Prim.Native.Nat.{◌+◌, ◌≤◌, ◌-◌}
-use mathlib.Core.Path.{◌≡◌, refl, sym, ◌∙◌}
+use mathlib.Core.Path.{refl, sym, ◌∙◌}
 use native.Mathlib.Nat.{add-zero}
 use native.Mathlib.Omega.{arith}
-use lib.ListN.{length, drop, length-set}
-use lib.Seq.{sets}
+use lib.ListN.{length-set}
 use Rattle.text.proofs.Stores.{sets_next, sets_done, room, put_room, after_room, put_none, after_none}
-use borrow.Author.Rules.{rules}
 use Rattle.text.proofs.words.put_text.Goals as goal
 
 pub returns-then-not-has_room : goal.returns-then-not-has_room

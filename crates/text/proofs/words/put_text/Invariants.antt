@@ -1,12 +1,8 @@
 -- What the loop of `text::words::put_text` keeps, and what falls.
 use Prim.Native.Nat.{◌+◌, ◌≤◌, ◌-◌}
-use mathlib.Core.Path.{◌≡◌, refl, sym, ◌∙◌}
-use native.Mathlib.Nat.{add-zero}
-use native.Mathlib.Omega.{arith}
-use lib.ListN.{length, drop, length-set}
+use mathlib.Core.Path.{◌≡◌}
+use lib.ListN.{length, drop}
 use lib.Seq.{sets}
-use Rattle.text.proofs.Stores.{sets_next, sets_done, room, put_room, after_room, put_none, after_none}
-use borrow.Author.Rules.{rules}
 use Rattle.text.proofs.words.put_text.Given as goal
 
 abbrev pub invariant-loop-i : goal.invariant-loop-i
