@@ -31,6 +31,6 @@ pub returns : goal.returns
 returns c =
     let code_fits : FitsSigned w32 c.call_by_number-r.result.code = search rules in
     elim c.if-r-ge0.branch [
-        then-r-ge0 w ↦ promised _ _ _ _ _ _ _ _ c.call_by_number-r.ensures _ (to_z-of_z code_fits) _ w.s-is
+      | then-r-ge0 w ↦ promised _ _ _ _ _ _ _ _ c.call_by_number-r.ensures _ (to_z-of_z code_fits) _ w.s-is
       | else-r-ge0 w ↦ promised _ _ _ _ _ _ _ _ c.call_by_number-r.ensures _ (to_z-of_z code_fits) _ (w.s-is ∙ sym (refused _ _ _ _ _ _ _ _ c.call_by_number-r.ensures _ (to_z-of_z code_fits) (negative _ w.if-r-ge0.false)))
     ]
