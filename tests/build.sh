@@ -12,33 +12,33 @@ mkdir -p "$tree/examples" "$tree/crates/model/specs"
 cp -R play tools "$tree"
 cp examples/round-robin.csv "$tree/examples"
 cp crates/model/specs/Services.antt "$tree/crates/model/specs"
-printf '%s\n' '# a note: with a colon' 'text:' 'model:' 'other: text' 'runlist: text model io libc' >"$tree/crates.txt"
+printf '%s\n' '# a note: with a colon' 'text:' 'model:' 'other: text' 'runlist: text model anyhow' >"$tree/crates.txt"
 for crate in text model other runlist; do
     mkdir -p "$tree/crates/$crate/src" "$tree/crates/$crate/proofs" "$tree/crates/$crate/must-fail"
     echo "// $crate" >"$tree/crates/$crate/src/lib.rt"
 done
 
-# ---- its rt: says what the file says has, copies the file makes as runlist if there is one, and ends with the number in the file ends;
+# ---- its rt: says what the file says has, copies the file makes as out/runlist if there is one, and ends with the number in the file ends;
 # if there is a file watched, it waits at the first crate for play's word about it
 mkdir "$work/bin"
 real=$(command -v rt)
 cat >"$work/bin/rt" <<END
 #!/bin/sh
-case "\$*" in
-version) cat "$work/version" ;;
-doc) exec "$real" doc ;;
-'check runlist')
+case "\$(basename "\$PWD") \$*" in
+*' version') cat "$work/version" ;;
+*' doc') exec "$real" doc ;;
+'runlist run --cpu x86-64')
     echo asked >>"$work/asked"
     while IFS= read -r line; do
         printf '%s\\n' "\$line"
         tries=0
-        while [ -f "$work/watched" ] && [ "\$line" = "rt: model proved (18 s)" ] && [ "\$tries" -lt 9 ]; do
+        while [ -f "$work/watched" ] && [ "\$line" = "logic=proved functions=18" ] && [ "\$tries" -lt 9 ]; do
             if grep -Fqx "1 of 3 proved: model" "$work/words"; then rm "$work/watched"; else sleep 1; fi
             tries=\$((tries + 1))
         done
     done <"$work/says"
     [ ! -f "$work/stops" ] || kill -TERM "\$(cat "$work/stops")"
-    [ ! -f "$work/makes" ] || { mkdir -p target/bin && cp "$work/makes" target/bin/runlist; }
+    [ ! -f "$work/makes" ] || { mkdir -p out && cp "$work/makes" out/runlist; }
     exit "\$(cat "$work/ends")"
     ;;
 *) exit 9 ;;
@@ -59,16 +59,18 @@ play() {
     [ "$1" -eq 0 ] || [ ! -s "$work/played" ] || differs "$what: something is written"
 }
 
-# what rt says as it proves all three, as it proves one again, and as nothing has changed
+# what rt says as it proves all three, as it proves two again, and as nothing has changed
 all() {
-    printf '%s\n' 'note: no function with a body is declared' 'struct model::Wait: proved' 'rt: model proved (18 s)' 'library std: modules loaded=0 checked=0' \
-        'rt: text proved (23 s)' 'fn runlist::main: proved' 'rt: runlist proved (17 s)' "rt: runlist ran as nobody, and wrote what its file 'stdout' has (0 s)" 'rt: ok, 3 crates proved'
+    printf '%s\n' 'rt: chose --jobs 2 for model' 'struct model::Wait: proved' 'library std: modules loaded=0 checked=0' 'crate model: modules loaded=0 checked=90' 'logic=proved functions=18' \
+        'note: no function with a body is declared' 'crate text: modules loaded=0 checked=44' 'logic=proved functions=23'
+    nothing
 }
 again() {
-    all | sed 's/model proved (18 s)/model proved (unchanged since it was last proved)/'
+    all | sed '/model: /d; /functions=18/d'
 }
 nothing() {
-    all | sed -n 's/proved ([0-9]* s)/proved (unchanged since it was last proved)/p'
+    printf '%s\n' 'fn runlist::main: proved' 'library text: modules loaded=20 checked=0' 'crate runlist: modules loaded=54 checked=0' 'logic=proved functions=1 target=x86_64-unknown-linux-gnu' \
+        'linked target=x86_64-unknown-linux-gnu files=out/runlist.o' 'rt: running out/runlist; to give it other input, run that file yourself' '-11'
 }
 start() {
     echo "play: runlist must be built first, which proves 3 crates: about 5 minutes on two processors"
@@ -96,7 +98,7 @@ changes() {
     what="changed: $1"
     nothing >"$work/says"
     play 0 1
-    seeing | said "$what"
+    { seeing && echo "3 of 3 proved: runlist"; } | said "$what"
     play 0 0
 }
 stays() {
@@ -127,27 +129,33 @@ what="one crate proved again"
 echo "// changed" >>"$tree/crates/text/src/lib.rt"
 again >"$work/says"
 play 0 1
-{ seeing && printf '%s\n' "1 of 3 proved before" "2 of 3 proved: text" "3 of 3 proved: runlist"; } | said "$what"
+{ seeing && printf '%s\n' "1 of 3 proved: text" "3 of 3 proved: runlist"; } | said "$what"
 
 # ---- builds that fail: nothing is played, not even where an older program is there, and the next play asks again
 what="a failing proof"
 echo "// changed" >>"$tree/crates/text/src/lib.rt"
 for line in 1 2 3 4 5 6 7 8 9 10; do echo "line $line"; done >"$work/says"
-printf '%s\n' 'crates/text/src/lib.rt:3:1: error: not proved' 'rt: text NOT PROVED (exit 1, 2 s)' 'rt: FAILED: text runlist' >>"$work/says"
+printf '%s\n' 'src/lib.rt:3:1: error: not proved' 'logic=not-proved' 'rt: the library text did not build, so nothing above it was checked' >>"$work/says"
 echo 1 >"$work/ends"
 play 2 1
 {
     seeing
-    echo "play: runlist does not build (rt check runlist ended with 1); the end of what it said:"
+    echo "play: runlist does not build (rt run in crates/runlist ended with 1); the end of what it said:"
     sed '1d; s/^/    /' "$work/says"
 } | said "$what"
+# what rt says of the modules that it read is no end of it
+sed 's/^logic=/library std: modules loaded=0 checked=0\nstatements core: modules loaded=0 checked=0\nlogic of the kit: libraries=16\n&/' "$work/says" >"$work/longer"
+mv "$work/words" "$work/shorter"
+mv "$work/longer" "$work/says"
+play 2 1
+said "$what, at length" <"$work/shorter"
 play 2 1
 what="a build that leaves no program"
 rm -rf "$tree/target" "$work/makes"
 all >"$work/says"
 echo 0 >"$work/ends"
 play 2 1
-grep -Fqx "play: runlist does not build (rt check runlist ended with 0); the end of what it said:" "$work/words" || differs "$what: other words"
+grep -Fqx "play: runlist does not build (rt run in crates/runlist ended with 0); the end of what it said:" "$work/words" || differs "$what: other words"
 
 # ---- stopped on the way, and two at a time
 cp "$runlist" "$work/makes"

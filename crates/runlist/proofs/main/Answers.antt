@@ -1,9 +1,9 @@
 -- `runlist::main` is safe: what the runner says it wrote lies within the buffer, and so does a refusal's number with its sign and line end.
 -- Rests on Signed.
 use lib.Seq.{length-take-le}
-use Rattle.std.proofs.Common.{sym, ◌≤◌, arith, length}
+use Rattle.std.proofs.Common.{sym, arith}
 use Rattle.text.proofs.Stores.{after_near}
-use Rattle.runlist.proofs.Signed.{opposite_fits, opposite_casts, opposite_few, bytes_fit, bytes_cast}
+use Rattle.runlist.proofs.Signed.{opposite_fits, opposite_casts, opposite_few, bytes_fit}
 use Rattle.runlist.proofs.main.Goals as goal
 
 pub overflow_sub-r : goal.overflow_sub-r
