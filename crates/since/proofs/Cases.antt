@@ -2,7 +2,6 @@
 -- So an entry that is said too narrowly or too widely, and a tick that counts although it was refused, are refused here by their numbers.
 use mathlib.Core.Path.{◌≡◌, refl}
 use mathlib.Core.List.{List, [], ◌∷◌}
-use Prim.Native.Nat.{ℕ}
 use native.Mathlib.Omega.{arith}
 use lib.Dec.{lit≤}
 use Rattle.model.specs.declared.State.{State}

@@ -23,7 +23,6 @@ use Rattle.ways.proofs.Ways.{way}
 use Rattle.turns.specs.Statements.{next, is_accepted}
 use Rattle.since.specs.Statements.{level_in, ended_by, Entry, arrives, restarts, rotates}
 use Rattle.since.proofs.Through.{Kept, kept_same}
-use Rattle.since.proofs.Seen as Seen
 use Rattle.since.proofs.Seen.{Seen, seen}
 
 -- what is left where a task does not enter: it is dormant, or lives on with its mark

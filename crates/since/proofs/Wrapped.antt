@@ -13,7 +13,7 @@ use Rattle.model.specs.declared.Call.{Call}
 use Rattle.model.specs.declared.Call.TheVariants.{TaskCreate}
 use Rattle.model.specs.declared.Code.TheVariants.{NoErr}
 use Rattle.model.specs.Task.{is_dormant}
-use Rattle.model.specs.State.{fresh, task, running, with_time}
+use Rattle.model.specs.State.{fresh, task, with_time}
 use Rattle.model.specs.Code.{is_refusal}
 use Rattle.model.specs.Call.{step, call}
 use Rattle.model.specs.Test.{one}
