@@ -2,16 +2,37 @@
 // It reads one byte more than a file may have, so as to see the difference. Rests on the runner and the printer of numbers.
 #![tactic(auto)]
 
+ghost use Rattle.std.specs.Prelude.{◌≤◌, length, IfOk};
+
 use std::io;
-use std::io::{Read, Write};
+use std::io::{ErrorKind, Read, Write};
 use text::decimals::put_decimal;
 use text::words::put_byte;
 
+// Fills the buffer with the input, as far as the input goes; says how many bytes came.
+fn read_full(input: &mut impl Read, file: &mut [u8]) -> io::Result<usize>
+    ensures { IfOk result (λ n. n ≤ length file.new) }
+{
+    let mut n = 0;
+    for _ in 0..u64::MAX {
+        match input.read(&mut file[n..]) {
+            Ok(0) => return Ok(n),
+            Ok(k) => n += k,
+            Err(e) => {
+                if e.kind() != ErrorKind::Interrupted {
+                    return Err(e);
+                }
+            }
+        }
+    }
+    Ok(n)
+}
+
 fn main(rt: HostRuntime) -> io::Result<()> {
-    let mut file = Vec::new(rt.alloc());
-    rt.reader().take(65537).read_to_end(&mut file)?;
+    let mut file = [0u8; 65537];
+    let n = read_full(&mut rt.reader(), &mut file)?;
     let mut answer = [0u8; 65536];
-    let r = runner::run_list(&file, &mut answer);
+    let r = runner::run_list(&file[..n], &mut answer);
     let mut output = io::writer(&rt);
     if r < 0 {
         let a = put_byte(&mut answer, 0, b'-');
