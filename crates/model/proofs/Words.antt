@@ -47,7 +47,7 @@ task_gets a v t b = gets from.T a v t b
 abbrev pub int_gets : Call → ℤ → ℕ → ℕ → Step
 int_gets a v t b = gets from.I a v t b
 
--- a call that is refused, from in_t or in_i; and those that get one code
+-- a call that is refused, from context T or I; and those that get one code
 abbrev pub in_t : Call → Ask
 in_t a = record { context = from.T; asked = a }
 
