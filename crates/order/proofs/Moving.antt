@@ -4,7 +4,7 @@ use mathlib.Core.Path.{◌≡◌, refl, sym, ap, ◌∙◌}
 use mathlib.Core.Bool.{Bool, true, false, cond, not, ◌&&◌, false≢true}
 use mathlib.Core.List.{List, [], ◌∷◌, ◌++◌}
 use mathlib.Core.Logic.{◌⊎◌, inl, inr, ⊎_elim}
-use Prim.Native.Nat.{ℕ, ◌+◌, ◌-◌, ◌≤◌, ◌<◌}
+use Prim.Native.Nat.{ℕ, ◌-◌, ◌≤◌, ◌<◌}
 use native.Mathlib.Nat.{not-suc-le-zero}
 use native.Mathlib.Omega.{arith}
 use lib.Dec.{T as So, eqb}
@@ -26,7 +26,7 @@ use Rattle.laws.proofs.Number.{same?, below?}
 use Rattle.laws.proofs.Occ.{one_le, place_in}
 use Rattle.laws.proofs.Record.{row_none, row_settled}
 use Rattle.laws.proofs.Relisted.{relisted_kept, row-relisted_from, row-relisted_to, row-relisted_other}
-use Rattle.soundness.proofs.Listed.{key_of, has_room, listed_not, lists_relisted}
+use Rattle.soundness.proofs.Listed.{key_of, has_room_lem, listed_not, lists_relisted}
 use Rattle.soundness.proofs.Moved.{task_kept, task-moved, tasks-moved}
 use Rattle.soundness.proofs.Folds.{Chained, by_news, by_fall}
 use Rattle.order.specs.Lists.{has, once, staying, paired}
@@ -121,7 +121,7 @@ module _ (r : ℕ) (low : 1 ≤ r) (top : r < 29) (s : State) (g : Good s) where
     pub queue_joined : (row_of (task s t) ≡ r → ⊥) → row_of x ≡ r → queue (moved t x s) r ≡ queue s r ++ (t ∷ [])
     unfolding moved
     queue_joined off on = ap listing enters ∙ listing-joined (row s.waits r) t (λ e. omega (arith, e, some)) padded_queue
-        (place_in 0 (row s.waits r) (has_room s.waits 29 (λ u. row_of (task s u)) g.waits (far s g.tasks#) r t top some high
+        (place_in 0 (row s.waits r) (has_room_lem s.waits 29 (λ u. row_of (task s u)) g.waits (far s g.tasks#) r t top some high
         (listed_not s.waits 29 (λ u. row_of (task s u)) g.waits r t top some (λ _ e. off e))))
       where
         enters : row (moved t x s).waits r ≡ joined (row s.waits r) t

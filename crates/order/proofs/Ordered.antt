@@ -24,10 +24,7 @@ use Rattle.ways.specs.Kind.{Kind}
 use Rattle.ways.specs.Entry.{Entry, receiving}
 use Rattle.ways.proofs.Done.{at_once, by_poll, first_at, Begins, sleeps, queues, asks as asks_flag, sends, receives, QueueMade, Receives, direct, oldest, refills, Done, Way, refuses, accepts}
 use Rattle.ways.proofs.Done.{Done as Ways}
-use Rattle.order.specs.Lists.{has}
 use Rattle.order.specs.Ledger.{Ledger, entered}
-use Rattle.order.proofs.Kept.{Kept}
-use Rattle.order.proofs.Moving.{queue}
 use Rattle.order.proofs.Sides.{row_low, first_in_lem}
 use Rattle.order.proofs.Stock.{size as places}
 use Rattle.order.proofs.Others.{KeptIn, Held, answer, leaves_all, ending, stopping, ticking, slicing, counting, flagging, deleting, flag_telling, sizing_else, stocking_else, refilling_else, removing_else, changing, same_numbers}
@@ -46,7 +43,7 @@ module _ {q : ℕ} {s : State} {l : Ledger} (held : Held q s l) where
       (λ y. rw y (waiting_receiver held some (to_receive q d) refl refl (rw y at made.made) t v))
       (λ apart. waiting_else held some (to_receive n d) (λ y. apart (omega (arith, y, queue_row_lem n made.low made.top, queue_row_lem q held.low held.top))) Pending t v)
 
-  getting : {x : Effect} (n v t : ℕ) → QueueMade s n → Receives s n v x → KeptIn q (carried s x) (entered q (receiving n) s (answer NoErr t v (carried s x)) l)
+  getting : (n : ℕ) {x : Effect} (v t : ℕ) → QueueMade s n → Receives s n v x → KeptIn q (carried s x) (entered q (receiving n) s (answer NoErr t v (carried s x)) l)
   unfolding carried
   getting n v t made (direct side e y) = by_queue_lem held n (moved (first_at s n) (ended (task s (first_at s n)) served 0) s) _ _
       (λ z. rw z (passing held v t (rw z at made.made) (rw z at side) (rw z at e) (rw z at y)))

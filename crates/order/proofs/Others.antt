@@ -1,9 +1,9 @@
 -- What a call that is no entry of a data queue makes of its ledger: whoever stops sending with it has given up.
 -- It rests on what moves, news, stops and ticks make of the queue's row (Moving) and on what is stored (Stock).
 use mathlib.Core.Path.{◌≡◌, refl, sym, ◌∙◌}
-use mathlib.Core.Bool.{Bool, not}
+use mathlib.Core.Bool.{Bool}
 use mathlib.Core.List.{List}
-use mathlib.Core.Logic.{◌⊎◌, ⊎_elim}
+use mathlib.Core.Logic.{⊎_elim}
 use Prim.Native.Nat.{ℕ, ◌+◌, ◌-◌, ◌≤◌, ◌<◌, ◌%◌, ◌^◌}
 use native.Mathlib.Omega.{arith}
 use lib.ListN.{length}
@@ -13,12 +13,12 @@ use Rattle.model.specs.declared.News.{News}
 use Rattle.model.specs.declared.News.TheVariants.{Deleted}
 use Rattle.model.specs.declared.Code.{Code}
 use Rattle.model.specs.declared.Answer.{Answer}
-use Rattle.model.specs.Row.{first_of, row}
+use Rattle.model.specs.Row.{first_of}
 use Rattle.model.specs.Flag.{flag_row}
 use Rattle.model.specs.DataQueue.{no_elements, put, pulled, queue_row}
 use Rattle.model.specs.Task.{served, row_of, ended}
 use Rattle.model.specs.State.{task, time, waiters, running, capacity_of, taken_of, elements_of, moved, counted, flagged, stocked, sized, sliced, marked, with_time}
-use Rattle.model.specs.Effect.{stopped, told_all, deleted, told_flag, stored, refilled, removed, charged, ticked, lapsed}
+use Rattle.model.specs.Effect.{stopped, told_all, deleted, told_flag, refilled, removed, charged, ticked, lapsed}
 use Rattle.model.specs.Sound.{Sound}
 use Rattle.laws.proofs.Record.{flag_row_lem, queue_row_lem, row_marks}
 use Rattle.laws.proofs.Places.{length-put, length-pulled}
@@ -28,13 +28,11 @@ use Rattle.soundness.proofs.Folds.{numbers_moved, numbers_stopped, numbers_told,
 use Rattle.soundness.proofs.Records.{WaitsAs}
 use Rattle.soundness.proofs.Changed.{named_in, change_waits}
 use Rattle.turns.proofs.Still.{Charged, only_charged}
-use Rattle.ways.specs.Entry.{sending, none}
 use Rattle.ways.proofs.Done.{Named, first_at, Change}
-use Rattle.order.specs.Lists.{has, tasks}
-use Rattle.order.specs.Ledger.{senders, Ledger, no_ledger, stops_sending, withdrawn_by, with_given_up, entered}
+use Rattle.order.specs.Ledger.{senders, Ledger, no_ledger, stops_sending, withdrawn_by, with_given_up}
 use Rattle.order.specs.Statements.{stored_in}
 use Rattle.order.proofs.Kept.{Kept, shrinks}
-use Rattle.order.proofs.Moving.{queue, asks, Good, sound_good, Shrinks, shrinks_like, shrinks_twice, Leaves, leaves_ended, after_moved, after_lapsed, after_stopped, after_told, in_row}
+use Rattle.order.proofs.Moving.{asks, Good, sound_good, Shrinks, shrinks_like, shrinks_twice, Leaves, leaves_ended, after_moved, after_lapsed, after_stopped, after_told, in_row}
 use Rattle.order.proofs.Sides.{row_low, row_top, senders_kept, once-senders, first_in_lem}
 use Rattle.order.proofs.Stock.{stored_else, capacity_else, size as places}
 

@@ -1,9 +1,9 @@
 -- What an entry of a data queue makes of its ledger: an element sent, received or handed over, a wait that begins, a creation, a deletion.
 -- It rests on the two sides of the queue (Sides), on what it has stored (Stock) and on the laws of Kept.
 use mathlib.Core.Path.{◌≡◌, refl, sym, ap, ◌∙◌}
-use mathlib.Core.Bool.{true, false, cond, not}
+use mathlib.Core.Bool.{true, false, cond}
 use mathlib.Core.List.{List, [], ◌∷◌, ◌++◌, append-nil, append_assoc}
-use mathlib.Core.Logic.{◌⊎◌, ⊎_elim}
+use mathlib.Core.Logic.{⊎_elim}
 use Prim.Native.Nat.{ℕ, ◌+◌, ◌-◌, ◌≤◌, ◌<◌}
 use native.Mathlib.Omega.{arith}
 use lib.Dec.{T as So, eqb}
@@ -30,14 +30,14 @@ use Rattle.soundness.proofs.Folds.{numbers_moved, numbers_told}
 use Rattle.soundness.proofs.Running.{runner}
 use Rattle.turns.specs.Tally.{is_zero}
 use Rattle.ways.specs.Entry.{Entry, creation, deletion, release, acquisition, poll, opening, closing, receiving, sending, none}
-use Rattle.ways.proofs.Done.{first_at, Side, queues}
-use Rattle.order.specs.Lists.{has, tasks, keeping}
+use Rattle.ways.proofs.Done.{first_at, Side}
+use Rattle.order.specs.Lists.{keeping}
 use Rattle.order.specs.Ledger.{senders, receivers, Ledger, handed_to, with_sent, with_received, with_none, with_given_up, entered}
 use Rattle.order.specs.Statements.{stored_in}
 use Rattle.order.proofs.Lists.{keeping_nil}
 use Rattle.order.proofs.Kept.{Kept, begins, joins, waits_on, passes}
 use Rattle.order.proofs.Kept as Keeping
-use Rattle.order.proofs.Moving.{queue, sound_good, Shrinks, leaves_ended, shrinks_moved, after_moved}
+use Rattle.order.proofs.Moving.{sound_good, Shrinks, leaves_ended, shrinks_moved, after_moved}
 use Rattle.order.proofs.Sides.{row_low, row_top, senders_kept, receiverless, sendless_beside, sendless_room, stockless, unmade_sides, first_in_lem, senders_served, receiver_served, sender_joined, receiver_joined}
 use Rattle.order.proofs.Stock.{stored_joined, stored_first, stored_passed, stored_oldest}
 use Rattle.order.proofs.Others.{KeptIn, Held, answer, gives_up, leaves_all, same_numbers}

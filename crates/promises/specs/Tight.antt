@@ -9,8 +9,8 @@
 --     Coincide   if the contract allows two outcomes for the same arguments, they are equal;
 --     Tight      it is Open, and any two Typed outcomes Coincide;
 --     Keeps      the compiled function meets the contract: so there is an outcome, and by Tight only one.
--- A Promise is a contract that is kept and tight. For example, `r ≡ is_sound s` is tight: two results that equal `is_sound s` are equal.
--- `r ≤ 24` would not be: it allows 3 and 4. The rest of this file is these words in the logic's own terms, where w is any model of the
+-- A Promise is a contract that is kept and tight. For example, `result ≡ is_sound s` is tight: two results that equal `is_sound s` are equal.
+-- `result ≤ 24` would not be: it allows 3 and 4. The rest of this file is these words in the logic's own terms, where w is any model of the
 -- logic, κs are lifetimes, a the arguments, g and h the ghosts of a contract (all of ours are the unit) and o, p outcomes.
 use Rattle.std.specs.Prelude.{ℕ, ◌≡◌, List, [], ◌∷◌}
 use seplogic.Ra.Ura.{Ura}
