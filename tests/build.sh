@@ -73,11 +73,11 @@ nothing() {
         'linked target=x86_64-unknown-linux-gnu files=out/runlist.o' 'rt: running out/runlist; to give it other input, run that file yourself' '-11'
 }
 start() {
-    echo "play: runlist must be built first, which proves 3 crates: about 5 minutes on two processors"
+    echo "play: runlist must be built first, which proves 3 crates: about 10 minutes on two processors"
     echo "play: it may be stopped with Ctrl-C at any time; the next ./play goes on where it was"
 }
 seeing() {
-    echo "play: seeing whether runlist is built from these sources; what changed is proved again, in a second or in up to 5 minutes"
+    echo "play: seeing whether runlist is built from these sources; what changed is proved again, in a second or in up to 10 minutes"
 }
 
 # ---- from nothing
