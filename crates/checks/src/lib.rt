@@ -85,6 +85,7 @@ pub enum Gate {
 }
 
 // Numbers out of range or an existing object, a missing object, the context; then the call's own tests.
+#[tactic(auto, unfolding(crate::specs::Gate::gate))]
 pub fn checked(right: bool, there: bool, mine: bool) -> Gate
     ensures { result ≡ gate right there mine }
 {

@@ -118,6 +118,7 @@ fn ran_out(x: Task) -> u8
 }
 
 // What a tick leaves of a timeout that does not end with it.
+#[tactic(auto, unfolding(crate::specs::Falling::fallen))]
 fn fallen(n: u32) -> u32
     ensures { result ≡ fallen n }
 {

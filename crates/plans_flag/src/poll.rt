@@ -8,6 +8,7 @@ use checks::{Gate, checked, is_flag, refused};
 use model::{Code, Flag, Plan};
 use records::is_met;
 
+#[tactic(auto, using(checks::proofs::Laws::refuses, checks::proofs::Laws::passes), unfolding(model::specs::Service::flag_poll))]
 pub(crate) fn flag_poll(mine: bool, flag: u32, pattern: u32, mode: u32, y: Flag) -> Plan
     ensures { result ≡ flag_poll mine flag pattern mode y }
 {

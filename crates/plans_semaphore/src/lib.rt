@@ -39,6 +39,7 @@ pub fn sem_delete(mine: bool, semaphore: u32, x: Semaphore) -> Plan
 }
 
 // k is the record of the first waiter.
+#[tactic(auto, using(checks::proofs::Laws::passes), unfolding(model::specs::Service::signal))]
 pub fn signal(mine: bool, semaphore: u32, k: Task, x: Semaphore) -> Plan
     ensures { result ≡ signal mine semaphore k x }
 {

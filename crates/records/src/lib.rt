@@ -39,6 +39,7 @@ pub const DLT: u8 = 10;
 pub const RELEASED: u8 = 11;
 
 // ---- the queues that list it; 0 for none
+#[tactic(auto, unfolding(model::specs::Task::level_of))]
 pub fn level_of(x: Task) -> u8
     ensures { result ≡ level_of x }
 {

@@ -11,6 +11,7 @@ pub enum Number {
 }
 
 // The number that n digits say, the first of them being the byte `first`.
+#[tactic(auto, unfolding(crate::specs::Number::numeral))]
 fn numeral(first: u8, value: u32, n: usize) -> Number
     ensures { result ≡ numeral first value n }
 {
