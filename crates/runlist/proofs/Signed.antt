@@ -78,3 +78,6 @@ module _ (file : List ℕ) (room : ℕ) (few : room < 2 ^ 62) (z : ℤ) (e : z �
 
   pub bytes_fit : lt_z (to_z w64 (of_z w64 z)) (pos 0) ≡ false → nat_abs (to_z w64 (of_z w64 z)) ≤ room
   bytes_fit h = rw same (bytes (rw (told false h) tt)).1
+
+  pub bytes_cast : lt_z (to_z w64 (of_z w64 z)) (pos 0) ≡ false → (So (non_neg (to_z w64 (of_z w64 z)))) × Fits w64 (nat_abs (to_z w64 (of_z w64 z)))
+  bytes_cast h = let b = bytes (rw (told false h) tt) in rw same (b.0, record { fits = omega (arith, b.1) })

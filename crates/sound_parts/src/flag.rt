@@ -17,6 +17,7 @@ fn is_flag_attributes(attributes: u32) -> bool
     (attributes == 0) | ((attributes == 1) | ((attributes == 2) | (attributes == 4)))
 }
 
+#[tactic(auto, unfolding(model::specs::Test::is_flag_sound))]
 pub fn flag_sound(attributes: u32, bits: u32, first: u8, second: u8) -> bool
     ensures { result ≡ is_flag_sound attributes bits first second }
 {

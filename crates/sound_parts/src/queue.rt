@@ -36,6 +36,7 @@ fn is_full(capacity: u32, taken: u32) -> bool
 }
 
 // A wait where the first waiter waits for this.
+#[tactic(auto, unfolding(model::specs::Test::is_unserved))]
 pub fn is_unserved(w: Wait, capacity: u32, taken: u32, first: u8) -> bool
     ensures { result ≡ is_unserved w capacity taken first }
 {
