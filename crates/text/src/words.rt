@@ -7,10 +7,7 @@ ghost use Rattle.text.specs.Bytes.{begins, put, place_after};
 pub fn byte_at(s: &[u8], i: usize) -> u8
     ensures { result ≡ get_or s.now i 0 }
 {
-    if i < s.len() {
-        return s[i];
-    }
-    0
+    s.get(i).copied().unwrap_or(0)
 }
 
 // Whether s begins with t.
@@ -22,10 +19,8 @@ pub fn begins(s: &[u8], t: &[u8]) -> bool
     }
     // all bytes are looked at, so that they are compared several at a time
     let mut same = true;
-    let mut i: usize = 0;
-    while i < t.len() {
-        same = same & (s[i] == t[i]);
-        i = i + 1;
+    for (x, y) in s.iter().zip(t) {
+        same = same & (*x == *y);
     }
     same
 }
@@ -47,12 +42,9 @@ pub fn put_text(buf: &mut [u8], at: usize, t: &[u8]) -> usize
     if !has_room(buf.len(), at, t.len()) {
         return at;
     }
-    let mut i: usize = 0;
-    while i < t.len() {
-        buf[at + i] = t[i];
-        i = i + 1;
-    }
-    at + i
+    let end = at + t.len();
+    buf[at..end].copy_from_slice(t);
+    end
 }
 
 // The byte b at the place `at`, and the place after it; without room nothing is written and the place stays.
