@@ -33,9 +33,6 @@ pub record Left (s : List ℕ) (v i : ℕ) : Type 0 where
   pub value : value_after v (digits (drop i s)) ≡ value_after 0 (digits s)
   pub count : i + length (digits (drop i s)) ≡ length (digits s)
 
-pub left_all : (s : List ℕ) → Left s 0 0
-left_all s = record { value = refl; count = omega arith }
-
 module _ (s : List ℕ) (v i : ℕ) (l : Left s v i) where
   pub left_on : i < length s → is_digit (get_or s i 0) ≡ true → Left s (v * 10 + (get_or s i 0 - 48)) (i + 1)
   unfolding digits value_after

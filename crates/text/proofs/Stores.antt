@@ -1,7 +1,7 @@
 -- Runs of stores, and the text that a buffer takes where it has room.
 -- It rests on lib.Seq's `sets`, whose laws hold past the end of the list too.
-use Prim.Native.Nat.{ℕ, suc, ◌+◌, ◌-◌, ◌≤◌}
-use mathlib.Core.Path.{◌≡◌, refl, sym, ◌∙◌}
+use Prim.Native.Nat.{ℕ, suc, ◌+◌, ◌≤◌}
+use mathlib.Core.Path.{◌≡◌, refl, sym}
 use mathlib.Core.Bool.{Bool, true, false, cond}
 use mathlib.Core.List.{List, [], ◌∷◌, ◌++◌, append_assoc}
 use native.Mathlib.Nat.{add-zero, add-suc, suc-add}
@@ -11,7 +11,7 @@ use lib.ListN.{length, set, length-append}
 use lib.Seq.{sets, set_comm, length-sets, drop-drop}
 use borrow.Rule.Slice.PartMut.{put_mid}
 use Rattle.std.proofs.lemmas.List.Edits.{sets-eq}
-use borrow.Author.Tests.{leb-true, leb-false, le-leb, lt-leb}
+use borrow.Author.Tests.{leb-true, le-leb}
 use Rattle.text.specs.Bytes.{put, place_after}
 
 pub sets_append : (l : List ℕ) (i : ℕ) (xs ys : List ℕ) → sets l i (xs ++ ys) ≡ sets (sets l i xs) (i + length xs) ys
@@ -27,14 +27,6 @@ set_then l i (y ∷ xs) x k e =
 -- what `copy_from_slice` leaves of the buffer
 pub sets_copied : (l : List ℕ) (at n : ℕ) (t : List ℕ) → n ≡ length t → at + length t ≤ length l → put_mid at n l t ≡ sets l at t
 sets_copied l at n t e h = rw (e, sets-eq t l at h) (simp (append_assoc, drop-drop))
-
--- whether there is room, by the difference for the sum
-pub leb_moved : (at n places : ℕ) → n ≤ places → leb at (places - n) ≡ leb (at + n) places
-leb_moved at n places h = go (leb at (places - n)) refl
-  where
-    go : (b : Bool) → leb at (places - n) ≡ b → leb at (places - n) ≡ leb (at + n) places
-    go true e = e ∙ sym (le-leb (at + n) places (omega (arith, leb-true at (places - n) e)))
-    go false e = e ∙ sym (lt-leb (at + n) places (omega (arith, leb-false at (places - n) e)))
 
 -- r is what `has_room` answered
 pub room : {r : Bool} (at n places : ℕ) → r ≡ leb (at + n) places → r ≡ true → at + n ≤ places

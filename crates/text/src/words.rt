@@ -11,6 +11,7 @@ pub fn byte_at(s: &[u8], i: usize) -> u8
 }
 
 // Whether s begins with t.
+#[tactic(auto, using(crate::proofs::Begins::begins_short))]
 pub fn begins(s: &[u8], t: &[u8]) -> bool
     ensures { result ≡ begins s.now t.now }
 {
@@ -29,13 +30,11 @@ pub fn begins(s: &[u8], t: &[u8]) -> bool
 pub fn has_room(places: usize, at: usize, n: usize) -> bool
     ensures { result ≡ leb (at + n) places }
 {
-    if places < n {
-        return false;
-    }
-    at <= places - n
+    n <= places && at <= places - n
 }
 
 // The bytes of t from the place `at` on, and the place after them; without room nothing is written and the place stays.
+#[tactic(auto, unfolding(crate::specs::Bytes::put, crate::specs::Bytes::place_after), using(crate::proofs::Stores::sets_copied))]
 pub fn put_text(buf: &mut [u8], at: usize, t: &[u8]) -> usize
     ensures { (result ≡ place_after buf.old at t.now) × (buf.new ≡ put buf.old at t.now) }
 {
@@ -48,6 +47,7 @@ pub fn put_text(buf: &mut [u8], at: usize, t: &[u8]) -> usize
 }
 
 // The byte b at the place `at`, and the place after it; without room nothing is written and the place stays.
+#[tactic(auto, unfolding(crate::specs::Bytes::put, crate::specs::Bytes::place_after))]
 pub fn put_byte(buf: &mut [u8], at: usize, b: u8) -> usize
     ensures { (result ≡ place_after buf.old at (b ∷ [])) × (buf.new ≡ put buf.old at (b ∷ [])) }
 {

@@ -4,11 +4,8 @@ use mathlib.Core.Path.{sym, ap, ◌∙◌}
 use native.Mathlib.Omega.{arith}
 use lib.ListN.{length}
 use Rattle.std.proofs.lemmas.Slice.Zip.{Zip-more, either_empty_from_Zip}
-use Rattle.text.proofs.Begins.{begins_short, begins_next, begins_end}
+use Rattle.text.proofs.Begins.{begins_next, begins_end}
 use Rattle.text.proofs.words.begins.Goals as goal
-
-pub returns-then-s-t : goal.returns-then-s-t
-returns-then-s-t c = sym (begins_short _ _ c.if-s-t.true)
 
 pub loop-x-preserved : goal.loop-x-preserved
 loop-x-preserved c =
