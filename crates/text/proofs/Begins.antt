@@ -1,38 +1,33 @@
 -- A list begins with a word: place by place, what the loop of `begins` goes by, and what follows for the bytes at a place.
 -- It rests on the definition of `begins`.
-use Prim.Native.Nat.{ℕ, zero, suc, ◌+◌, ◌<◌, ◌≤◌}
-use mathlib.Core.Path.{◌≡◌, refl}
+use Prim.Native.Nat.{ℕ, zero, suc, ◌<◌, ◌≤◌}
+use mathlib.Core.Path.{◌≡◌, refl, ap}
+use mathlib.Core.Logic.{◌⊎◌, inl, inr}
 use mathlib.Core.Bool.{Bool, true, false, cond, ◌&&◌, false≢true}
 use mathlib.Core.List.{List, [], ◌∷◌}
 use native.Mathlib.Omega.{arith}
 use lib.Dec.{eqb}
-use lib.ListN.{length, get_or, drop, drop_of_length-le}
+use lib.ListN.{length, get_or}
 use borrow.Author.Tests.{eqb-true}
 use Rattle.text.specs.Bytes.{begins}
-use Rattle.text.proofs.Places.{next}
 
-module _ (s t : List ℕ) (i : ℕ) where
-  pub begins_end : length t ≤ i → begins (drop i s) (drop i t) ≡ true
-  unfolding begins
-  begins_end h = rw (drop_of_length-le t h)
+-- so far, and at the next byte of both
+pub begins_next : (so : Bool) (b a : ℕ) (s t : List ℕ) → so && begins (b ∷ s) (a ∷ t) ≡ (so && eqb b a) && begins s t
+unfolding begins
+begins_next true b a s t = go (eqb b a)
+  where
+    go : (p : Bool) → cond p (begins s t) false ≡ p && begins s t
+    go true = refl
+    go false = refl
+begins_next false b a s t = refl
 
-  -- so far, and at place i
-  pub begins_next : (so : Bool) → length t ≤ length s → i < length t
-      → so && begins (drop i s) (drop i t) ≡ (so && eqb (get_or s i 0) (get_or t i 0)) && begins (drop (i + 1) s) (drop (i + 1) t)
-  unfolding begins
-  begins_next so h g = rw (next t i g, next s i (omega arith)) (go so (eqb (get_or s i 0) (get_or t i 0)))
-    where
-      rest : Bool
-      rest = begins (drop (i + 1) s) (drop (i + 1) t)
-
-      go : (a b : Bool) → a && cond b rest false ≡ (a && b) && rest
-      go true true = refl
-      go true false = refl
-      go false b = refl
-
-pub and-true : (b : Bool) → b && true ≡ b
-and-true true = refl
-and-true false = refl
+-- so far, where nothing is left of the word
+pub begins_end : (so : Bool) (s t : List ℕ) → length t ≤ length s → (s ≡ []) ⊎ (t ≡ []) → so && begins s t ≡ so
+unfolding begins
+begins_end true s [] h e = refl
+begins_end false s [] h e = refl
+begins_end so s (a ∷ t) h (inl e) = absurd (omega (arith, ap length e))
+begins_end so s (a ∷ t) h (inr e) = absurd (omega (arith, ap length e))
 
 pub begins_short : (s t : List ℕ) → length s < length t → begins s t ≡ false
 unfolding begins

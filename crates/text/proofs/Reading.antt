@@ -2,14 +2,15 @@
 -- It rests on the definitions of specs/Number.
 use Prim.Native.Nat.{ℕ, suc, ◌+◌, ◌-◌, ◌*◌, ◌<◌, ◌≤◌}
 use mathlib.Core.Path.{◌≡◌, refl, sym, ap, ◌∙◌}
-use mathlib.Core.Bool.{Bool, true, false, cond, ◌&&◌, ◌||◌, and-false, false≢true}
+use mathlib.Core.Bool.{Bool, true, false, cond}
 use mathlib.Core.List.{List, [], ◌∷◌}
 use native.Mathlib.Omega.{arith}
-use lib.Dec.{leb, ltb, eqb}
+use lib.Dec.{leb, eqb}
+use Rattle.std.specs.Prelude.{Option, Some, None, IfSome}
 use lib.ListN.{length, get_or, drop, drop_of_length-le}
-use borrow.Author.Tests.{le-leb, lt-leb, ltb-true, ltb-false}
+use borrow.Author.Tests.{le-leb, lt-leb}
+use Rattle.std.specs.Char.{is_ascii_digit}
 use Rattle.text.specs.declared.number.Number.{Number}
-use Rattle.text.specs.declared.number.Number.TheVariants.{Digits, NoNumber}
 use Rattle.text.specs.Number.{is_digit, digits, value_after, numeral, number_of}
 use Rattle.text.proofs.Places.{next}
 
@@ -17,35 +18,10 @@ pub digit_in : (b : ℕ) → 48 ≤ b → b ≤ 57 → is_digit b ≡ true
 unfolding is_digit
 digit_in b h g = rw (le-leb 48 b h, le-leb b 57 g)
 
--- the test that ends the loop, and what it says of a byte
-abbrev pub outside : ℕ → Bool
-outside b = ltb b 48 || ltb 57 b
-
-pub no_digit : (b : ℕ) → outside b ≡ true → is_digit b ≡ false
+-- std's test of a byte is ours
+pub a_digit : {r x : Bool} (b : ℕ) → r ≡ is_ascii_digit b → r ≡ x → is_digit b ≡ x
 unfolding is_digit
-no_digit b e = go (ltb b 48) refl (ltb 57 b) refl e
-  where
-    go : (x : Bool) → ltb b 48 ≡ x → (y : Bool) → ltb 57 b ≡ y → x || y ≡ true → leb 48 b && leb b 57 ≡ false
-    go true p y q e = rw (lt-leb 48 b (ltb-true b 48 p))
-    go false p true q e = rw (lt-leb b 57 (ltb-true 57 b q), and-false)
-    go false p false q e = absurd (false≢true e)
-
-pub digit_least : (b : ℕ) → outside b ≡ false → 48 ≤ b
-digit_least b e = go (ltb b 48) refl e
-  where
-    go : (x : Bool) → ltb b 48 ≡ x → x || ltb 57 b ≡ false → 48 ≤ b
-    go true p e = absurd (false≢true (sym e))
-    go false p e = ltb-false b 48 p
-
-pub digit_most : (b : ℕ) → outside b ≡ false → b ≤ 57
-digit_most b e = go (ltb b 48) e
-  where
-    go : (x : Bool) → x || ltb 57 b ≡ false → b ≤ 57
-    go true e = absurd (false≢true (sym e))
-    go false e = ltb-false 57 b e
-
-pub a_digit : (b : ℕ) → outside b ≡ false → is_digit b ≡ true
-a_digit b e = digit_in b (digit_least b e) (digit_most b e)
+a_digit b e h = sym e ∙ h
 
 value_grows : (v : ℕ) (ds : List ℕ) → v ≤ value_after v ds
 unfolding value_after
@@ -56,9 +32,6 @@ value_grows v (d ∷ ds) = omega (arith, value_grows (v * 10 + (d - 48)) ds)
 pub record Left (s : List ℕ) (v i : ℕ) : Type 0 where
   pub value : value_after v (digits (drop i s)) ≡ value_after 0 (digits s)
   pub count : i + length (digits (drop i s)) ≡ length (digits s)
-
-pub left_all : (s : List ℕ) → Left s 0 0
-left_all s = record { value = refl; count = omega arith }
 
 module _ (s : List ℕ) (v i : ℕ) (l : Left s v i) where
   pub left_on : i < length s → is_digit (get_or s i 0) ≡ true → Left s (v * 10 + (get_or s i 0 - 48)) (i + 1)
@@ -85,20 +58,14 @@ module _ (s : List ℕ) (v i : ℕ) (l : Left s v i) where
   unfolding digits
   left_end h g = left_none h (rw (drop_of_length-le s g))
 
-  pub left_over : 4294967295 < v → NoNumber ≡ number_of s
+  pub left_over : 4294967295 < v → None ≡ number_of s
   unfolding number_of
   left_over h = rw (lt-leb (value_after 0 (digits s)) 4294967295 (omega (arith, value_grows v (digits (drop i s)), l.value)))
 
-pub number_empty : (s : List ℕ) → length s ≡ 0 → NoNumber ≡ number_of s
-unfolding number_of numeral digits value_after
-number_empty [] h = refl
-number_empty (b ∷ s) h = absurd (omega arith)
-
 -- ---- the digits lie within the list
 
-abbrev pub NumberIn : Number → ℕ → Type 0
-NumberIn (Digits v n) l = n ≤ l
-NumberIn NoNumber l = Unit
+abbrev pub NumberIn : Option Number → ℕ → Type 0
+NumberIn o l = IfSome o (λ x. x.next ≤ l)
 
 -- what a call's result was found to be, said of what the callee ensures of it
 pub got : {A : Type 0} {r x y : A} → r ≡ x → r ≡ y → x ≡ y
@@ -119,9 +86,10 @@ unfolding number_of numeral
 number_in s =
     let n = length (digits s) in
     let v = value_after 0 (digits s) in
-    let P : Number → Type 0 = λ (t : Number). NumberIn t (length s) in
-    cond_by P (leb v 4294967295) (numeral (get_or s 0 0) v n) NoNumber
-    (λ _. cond_by P (eqb n 0) NoNumber _ (λ _. tt)
-    (cond_by P (eqb n 1) (Digits v n) _ (λ _. digits_in s)
-    (cond_by P (eqb (get_or s 0 0) 48) NoNumber (Digits v n) (λ _. tt) (digits_in s))))
+    let x : Number = record { value = v; next = n } in
+    let P : Option Number → Type 0 = λ (o : Option Number). NumberIn o (length s) in
+    cond_by P (leb v 4294967295) (numeral (get_or s 0 0) v n) None
+    (λ _. cond_by P (eqb n 0) None _ (λ _. tt)
+    (cond_by P (eqb n 1) (Some x) _ (λ _. digits_in s)
+    (cond_by P (eqb (get_or s 0 0) 48) None (Some x) (λ _. tt) (digits_in s))))
     tt

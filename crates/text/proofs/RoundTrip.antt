@@ -5,10 +5,10 @@ use mathlib.Core.Path.{◌≡◌, refl, ap, ◌∙◌}
 use mathlib.Core.Bool.{Bool, true, false}
 use mathlib.Core.List.{List, [], ◌∷◌, ◌++◌, append_assoc, append-nil}
 use native.Mathlib.Omega.{arith}
+use Rattle.std.specs.Prelude.{Some}
 use lib.Dec.{ltb}
 use lib.ListN.{length, get_or, length-append, get_or-append}
 use borrow.Author.Tests.{ltb-true, ltb-false, le-leb, ne_eqb}
-use Rattle.text.specs.declared.number.Number.TheVariants.{Digits}
 use Rattle.text.specs.Number.{is_digit, digits, value_after, numeral, number_of}
 use Rattle.text.specs.Decimal.{decimal}
 use Rattle.text.proofs.Digits.{decimal_one, decimal_step}
@@ -67,7 +67,7 @@ none [] e = refl
 none (b ∷ rest) e = rw e
 
 -- the number is read back, and the reader stops at what follows, if that is no digit
-pub read_back : (n : ℕ) → n < 4294967296 → (rest : List ℕ) → is_digit (get_or rest 0 0) ≡ false → number_of (decimal n ++ rest) ≡ Digits n (length (decimal n))
+pub read_back : (n : ℕ) → n < 4294967296 → (rest : List ℕ) → is_digit (get_or rest 0 0) ≡ false → number_of (decimal n ++ rest) ≡ Some (record { value = n; next = length (decimal n) })
 unfolding number_of numeral
 read_back n h rest e = go (ltb n 10) refl
   where
@@ -80,7 +80,7 @@ read_back n h rest e = go (ltb n 10) refl
     f : get_or (decimal n ++ rest) 0 0 ≡ get_or (decimal n) 0 0
     f = get_or-append (decimal n) rest 0 0 p.some
 
-    go : (b : Bool) → ltb n 10 ≡ b → number_of (decimal n ++ rest) ≡ Digits n (length (decimal n))
+    go : (b : Bool) → ltb n 10 ≡ b → number_of (decimal n ++ rest) ≡ Some (record { value = n; next = length (decimal n) })
     go true q = let g = decimal_one n (omega (arith, ltb-true n 10 q)) in rw (d, p.value, le-leb n 4294967295 (omega arith), g)
     go false q =
         let g : 9 < n = ltb-false n 10 q in

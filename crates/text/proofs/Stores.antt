@@ -1,16 +1,17 @@
 -- Runs of stores, and the text that a buffer takes where it has room.
 -- It rests on lib.Seq's `sets`, whose laws hold past the end of the list too.
-use Prim.Native.Nat.{ℕ, suc, ◌+◌, ◌-◌, ◌<◌, ◌≤◌}
-use mathlib.Core.Path.{◌≡◌, refl, sym, ◌∙◌}
-use mathlib.Core.Bool.{Bool, true, false, not, cond}
-use mathlib.Core.List.{List, [], ◌∷◌, ◌++◌}
+use Prim.Native.Nat.{ℕ, suc, ◌+◌, ◌≤◌}
+use mathlib.Core.Path.{◌≡◌, refl, sym}
+use mathlib.Core.Bool.{Bool, true, false, cond}
+use mathlib.Core.List.{List, [], ◌∷◌, ◌++◌, append_assoc}
 use native.Mathlib.Nat.{add-zero, add-suc, suc-add}
-use native.Mathlib.Numerals.{add-one}
 use native.Mathlib.Omega.{arith}
 use lib.Dec.{leb}
-use lib.ListN.{length, set, get_or, drop, drop_of_length-le, length-append}
-use lib.Seq.{sets, set_comm, drop-cons, length-sets}
-use borrow.Author.Tests.{leb-true, leb-false, le-leb, lt-leb, not-true, not-false}
+use lib.ListN.{length, set, length-append}
+use lib.Seq.{sets, set_comm, length-sets, drop-drop}
+use borrow.Rule.Slice.PartMut.{put_mid}
+use Rattle.std.proofs.lemmas.List.Edits.{sets-eq}
+use borrow.Author.Tests.{leb-true, le-leb}
 use Rattle.text.specs.Bytes.{put, place_after}
 
 pub sets_append : (l : List ℕ) (i : ℕ) (xs ys : List ℕ) → sets l i (xs ++ ys) ≡ sets (sets l i xs) (i + length xs) ys
@@ -23,24 +24,13 @@ set_then l i [] x k e = rw (e, add-zero i)
 set_then l i (y ∷ xs) x k e =
     rw (set_comm l k i x y (λ q. omega arith)) (set_then (set l i y) (suc i) xs x k (omega arith))
 
-module _ (l : List ℕ) (at : ℕ) (t : List ℕ) (i : ℕ) where
-  pub sets_next : i < length t → sets (set l (at + i) (get_or t i 0)) (at + (i + 1)) (drop (i + 1) t) ≡ sets l (at + i) (drop i t)
-  sets_next h = rw (drop-cons t i 0 h, add-one i, add-suc at i)
-
-  pub sets_done : length t ≤ i → sets l (at + i) (drop i t) ≡ l
-  sets_done h = rw (drop_of_length-le t h)
-
--- whether there is room, by the difference for the sum
-pub leb_moved : (at n places : ℕ) → n ≤ places → leb at (places - n) ≡ leb (at + n) places
-leb_moved at n places h = go (leb at (places - n)) refl
-  where
-    go : (b : Bool) → leb at (places - n) ≡ b → leb at (places - n) ≡ leb (at + n) places
-    go true e = e ∙ sym (le-leb (at + n) places (omega (arith, leb-true at (places - n) e)))
-    go false e = e ∙ sym (lt-leb (at + n) places (omega (arith, leb-false at (places - n) e)))
+-- what `copy_from_slice` leaves of the buffer
+pub sets_copied : (l : List ℕ) (at n : ℕ) (t : List ℕ) → n ≡ length t → at + length t ≤ length l → put_mid at n l t ≡ sets l at t
+sets_copied l at n t e h = rw (e, sets-eq t l at h) (simp (append_assoc, drop-drop))
 
 -- r is what `has_room` answered
-pub room : {r : Bool} (at n places : ℕ) → r ≡ leb (at + n) places → not r ≡ false → at + n ≤ places
-room {r} at n places e h = leb-true (at + n) places (rw e at (not-false r h))
+pub room : {r : Bool} (at n places : ℕ) → r ≡ leb (at + n) places → r ≡ true → at + n ≤ places
+room at n places e h = leb-true (at + n) places (rw e at h)
 
 -- a text with room for it is stored
 module _ (buf : List ℕ) (at : ℕ) (t : List ℕ) where
@@ -53,13 +43,13 @@ module _ (buf : List ℕ) (at : ℕ) (t : List ℕ) where
   after_room h = rw (le-leb (at + length t) (length buf) h)
 
   -- one without room leaves the buffer and the place
-  pub put_none : {r : Bool} → r ≡ leb (at + length t) (length buf) → not r ≡ true → buf ≡ put buf at t
+  pub put_none : {r : Bool} → r ≡ leb (at + length t) (length buf) → r ≡ false → buf ≡ put buf at t
   unfolding put
-  put_none {r} e h = rw (← e, not-true r h)
+  put_none e h = rw (← e, h)
 
-  pub after_none : {r : Bool} → r ≡ leb (at + length t) (length buf) → not r ≡ true → at ≡ place_after buf at t
+  pub after_none : {r : Bool} → r ≡ leb (at + length t) (length buf) → r ≡ false → at ≡ place_after buf at t
   unfolding place_after
-  after_none {r} e h = rw (← e, not-true r h)
+  after_none e h = rw (← e, h)
 
   after_most : place_after buf at t ≤ at + length t
   unfolding place_after

@@ -1,8 +1,7 @@
 -- A decimal number at the start of a list of bytes: digits without sign or needless leading zero, at most 4,294,967,295.
 -- It assumes nothing.
-use Rattle.std.specs.Prelude.{ℕ, ◌+◌, ◌-◌, ◌*◌, Bool, cond, ◌&&◌, List, [], ◌∷◌, leb, eqb, length, get_or}
+use Rattle.std.specs.Prelude.{ℕ, ◌+◌, ◌-◌, ◌*◌, Bool, cond, ◌&&◌, Option, Some, None, List, [], ◌∷◌, leb, eqb, length, get_or}
 use Rattle.text.specs.declared.number.Number.{Number}
-use Rattle.text.specs.declared.number.Number.TheVariants.{Digits, NoNumber}
 
 -- the byte is `0` to `9`
 unfoldable pub is_digit : ℕ → Bool
@@ -19,11 +18,13 @@ value_after v [] = v
 value_after v (d ∷ ds) = value_after (v * 10 + (d - 48)) ds
 
 -- n digits of the value v, the first of them b: at least one, and no needless leading zero
-unfoldable pub numeral : ℕ → ℕ → ℕ → Number
-numeral b v n = cond (eqb n 0) NoNumber (cond (eqb n 1) (Digits v n) (cond (eqb b 48) NoNumber (Digits v n)))
+unfoldable pub numeral : ℕ → ℕ → ℕ → Option Number
+numeral b v n =
+    let x : Number = record { value = v; next = n } in
+    cond (eqb n 0) None (cond (eqb n 1) (Some x) (cond (eqb b 48) None (Some x)))
 
 -- the number that begins s, at most 4,294,967,295, with the count of its digits
-unfoldable pub number_of : List ℕ → Number
+unfoldable pub number_of : List ℕ → Option Number
 number_of s =
     let v = value_after 0 (digits s) in
-    cond (leb v 4294967295) (numeral (get_or s 0 0) v (length (digits s))) NoNumber
+    cond (leb v 4294967295) (numeral (get_or s 0 0) v (length (digits s))) None

@@ -10,34 +10,18 @@ use crate::words::has_room;
 pub fn width(n: u32) -> usize
     ensures { result ≡ length (decimal n) }
 {
-    if n < 10 {
-        return 1;
+    match n {
+        0..=9 => 1,
+        10..=99 => 2,
+        100..=999 => 3,
+        1000..=9999 => 4,
+        10000..=99999 => 5,
+        100000..=999999 => 6,
+        1000000..=9999999 => 7,
+        10000000..=99999999 => 8,
+        100000000..=999999999 => 9,
+        _ => 10,
     }
-    if n < 100 {
-        return 2;
-    }
-    if n < 1000 {
-        return 3;
-    }
-    if n < 10000 {
-        return 4;
-    }
-    if n < 100000 {
-        return 5;
-    }
-    if n < 1000000 {
-        return 6;
-    }
-    if n < 10000000 {
-        return 7;
-    }
-    if n < 100000000 {
-        return 8;
-    }
-    if n < 1000000000 {
-        return 9;
-    }
-    10
 }
 
 // The digits of n from the place `at` on, and the place after them; without room nothing is written and the place stays.
@@ -49,12 +33,13 @@ pub fn put_decimal(buf: &mut [u8], at: usize, n: u32) -> usize
         return at;
     }
     let end = at + digits;
+    // by hand: each digit goes straight to its place, the last one first, so that no scratch is needed
     let mut k = end;
     let mut rest = n;
     while 9 < rest {
-        k = k - 1;
+        k -= 1;
         buf[k] = (48 + rest % 10) as u8;
-        rest = rest / 10;
+        rest /= 10;
     }
     buf[at] = (48 + rest) as u8;
     end

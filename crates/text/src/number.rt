@@ -3,51 +3,45 @@
 ghost use Rattle.std.specs.Prelude.{◌≡◌};
 ghost use Rattle.text.specs.Number.{numeral, number_of};
 
-// A number with the count of its digits, or nothing that is a number.
+use crate::words::byte_at;
+
+// A number, with the count of its digits.
 #[derive(Clone, Copy)]
-pub enum Number {
-    Digits { value: u32, next: usize },
-    NoNumber,
+pub struct Number {
+    pub value: u32,
+    pub next: usize,
 }
 
 // The number that n digits say, the first of them being the byte `first`.
 #[tactic(auto, unfolding(crate::specs::Number::numeral))]
-fn numeral(first: u8, value: u32, n: usize) -> Number
+fn numeral(first: u8, value: u32, n: usize) -> Option<Number>
     ensures { result ≡ numeral first value n }
 {
     if n == 0 {
-        return Number::NoNumber;
+        return None;
     }
     if n == 1 {
-        return Number::Digits { value, next: n };
+        return Some(Number { value, next: n });
     }
     if first == 48 {
-        return Number::NoNumber;
+        return None;
     }
-    Number::Digits { value, next: n }
+    Some(Number { value, next: n })
 }
 
 // The number whose digits begin s: they end at the first byte that is none.
-pub fn read_number(s: &[u8]) -> Number
+pub fn read_number(s: &[u8]) -> Option<Number>
     ensures { result ≡ number_of s.now }
 {
-    if s.len() == 0 {
-        return Number::NoNumber;
-    }
-    let first = s[0];
     let mut value: u32 = 0;
-    let mut i: usize = 0;
-    while i < s.len() {
-        let b = s[i];
-        if (b < 48) | (57 < b) {
+    let mut n: usize = 0;
+    for b in s {
+        if !b.is_ascii_digit() {
             break;
         }
-        let more = (value as u64) * 10 + (b - 48) as u64;
-        if 4294967295 < more {
-            return Number::NoNumber;
-        }
-        value = more as u32;
-        i = i + 1;
+        let digit = u32::from(*b - b'0');
+        value = value.checked_mul(10)?.checked_add(digit)?;
+        n = n + 1;
     }
-    numeral(first, value, i)
+    numeral(byte_at(s, 0), value, n)
 }

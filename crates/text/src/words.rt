@@ -7,13 +7,11 @@ ghost use Rattle.text.specs.Bytes.{begins, put, place_after};
 pub fn byte_at(s: &[u8], i: usize) -> u8
     ensures { result ≡ get_or s.now i 0 }
 {
-    if i < s.len() {
-        return s[i];
-    }
-    0
+    s.get(i).copied().unwrap_or(0)
 }
 
 // Whether s begins with t.
+#[tactic(auto, using(crate::proofs::Begins::begins_short))]
 pub fn begins(s: &[u8], t: &[u8]) -> bool
     ensures { result ≡ begins s.now t.now }
 {
@@ -22,10 +20,8 @@ pub fn begins(s: &[u8], t: &[u8]) -> bool
     }
     // all bytes are looked at, so that they are compared several at a time
     let mut same = true;
-    let mut i: usize = 0;
-    while i < t.len() {
-        same = same & (s[i] == t[i]);
-        i = i + 1;
+    for (x, y) in s.iter().zip(t) {
+        same = same & (*x == *y);
     }
     same
 }
@@ -34,28 +30,24 @@ pub fn begins(s: &[u8], t: &[u8]) -> bool
 pub fn has_room(places: usize, at: usize, n: usize) -> bool
     ensures { result ≡ leb (at + n) places }
 {
-    if places < n {
-        return false;
-    }
-    at <= places - n
+    n <= places && at <= places - n
 }
 
 // The bytes of t from the place `at` on, and the place after them; without room nothing is written and the place stays.
+#[tactic(auto, unfolding(crate::specs::Bytes::put, crate::specs::Bytes::place_after), using(crate::proofs::Stores::sets_copied))]
 pub fn put_text(buf: &mut [u8], at: usize, t: &[u8]) -> usize
     ensures { (result ≡ place_after buf.old at t.now) × (buf.new ≡ put buf.old at t.now) }
 {
     if !has_room(buf.len(), at, t.len()) {
         return at;
     }
-    let mut i: usize = 0;
-    while i < t.len() {
-        buf[at + i] = t[i];
-        i = i + 1;
-    }
-    at + i
+    let end = at + t.len();
+    buf[at..end].copy_from_slice(t);
+    end
 }
 
 // The byte b at the place `at`, and the place after it; without room nothing is written and the place stays.
+#[tactic(auto, unfolding(crate::specs::Bytes::put, crate::specs::Bytes::place_after))]
 pub fn put_byte(buf: &mut [u8], at: usize, b: u8) -> usize
     ensures { (result ≡ place_after buf.old at (b ∷ [])) × (buf.new ≡ put buf.old at (b ∷ [])) }
 {

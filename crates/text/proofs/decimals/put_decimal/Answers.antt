@@ -22,16 +22,16 @@ pub returns-then-not-has_room : goal.returns-then-not-has_room
 returns-then-not-has_room c =
     let a = c.args in
     let e = spared (goal.at.returns-then-not-has_room c).After-has_room in
-    (after_none a.buf.now a.at (decimal a.n) e c.if-not-has_room.true-raw, put_none a.buf.now a.at (decimal a.n) e c.if-not-has_room.true-raw)
+    (after_none a.buf.now a.at (decimal a.n) e c.if-not-has_room.true, put_none a.buf.now a.at (decimal a.n) e c.if-not-has_room.true)
 
 pub overflow_add-end : goal.overflow_add-end
 overflow_add-end c =
     let a = c.args in
-    omega (arith, room a.at c.width-digits.result (length a.buf.now) c.has_room.ensures c.if-not-has_room.false-raw, c.well_formed)
+    omega (arith, room a.at c.width-digits.result (length a.buf.now) c.has_room.ensures c.if-not-has_room.false, c.well_formed)
 
 pub loop-rest-init : goal.loop-rest-init
 loop-rest-init c =
-    let h = room _ _ _ (spared (goal.at.loop-rest-init c).After-has_room) c.if-not-has_room.false-raw in
+    let h = room _ _ _ (spared (goal.at.loop-rest-init c).After-has_room) c.if-not-has_room.false in
     (h, refl, ap (λ (m : ℕ). c.args.at + m) c.width-digits.ensures, omega (arith, c.width-digits.ensures), refl)
 
 pub overflow_sub-k : goal.overflow_sub-k

@@ -1,18 +1,16 @@
--- `text::words::begins` meets its contract. The invariant: what is the same so far and what is left of both decide.
+-- `text::words::begins` meets its contract.
 -- It rests on the laws of `begins`.
-use mathlib.Core.Path.{refl, sym, ◌∙◌}
+use mathlib.Core.Path.{sym, ap, ◌∙◌}
 use native.Mathlib.Omega.{arith}
-use Rattle.text.proofs.Begins.{begins_short, begins_end, begins_next, and-true}
+use lib.ListN.{length}
+use Rattle.std.proofs.lemmas.Slice.Zip.{Zip-more, either_empty_from_Zip}
+use Rattle.text.proofs.Begins.{begins_next, begins_end}
 use Rattle.text.proofs.words.begins.Goals as goal
 
-pub returns-then-s-t : goal.returns-then-s-t
-returns-then-s-t c = sym (begins_short _ _ c.if-s-t.true)
-
-pub loop-i-init : goal.loop-i-init
-loop-i-init c = (omega arith, omega arith, refl)
-
-pub loop-i-preserved : goal.loop-i-preserved
-loop-i-preserved c = (omega arith, omega arith, sym (begins_next c.args.s.now c.args.t.now c.loop-i.i c.loop-i.same c.loop-i.invariant.0 c.loop-i-test.true) ∙ c.loop-i.invariant.2)
+pub loop-x-preserved : goal.loop-x-preserved
+loop-x-preserved c =
+    let k = Zip-more _ c.next.new.self _ _ c.in-Some.is c.next.ensures.steps in
+    (omega (arith, ap length k.0, ap length k.1, c.loop-x.invariant.0), sym (begins_next c.loop-x.same _ _ _ _) ∙ rw (k.0, k.1) at c.loop-x.invariant.1)
 
 pub returns : goal.returns
-returns c = sym (and-true _) ∙ sym (rw (begins_end _ _ _ c.loop-i-test.false) at (sym c.loop-i.invariant.2))
+returns c = sym (begins_end c.loop-x.same _ _ c.loop-x.invariant.0 (either_empty_from_Zip _ c.next.new.self _ c.in-None.is c.next.ensures.steps)) ∙ c.loop-x.invariant.1
