@@ -35,10 +35,11 @@ fn answered(s: &State, code: Code, value: u32) -> Stepped
 }
 
 // A tick looks at no record, so it goes a way of its own.
+#[tactic(auto, unfolding(model::specs::Call::plan, model::specs::Service::tick, model::specs::Services::is_mine, model::proofs::Words::table))]
 fn tick_in(s: &mut State, run: u8, c: Context) -> Stepped
     ensures { answer_of result s.new ≡ step_from run s.old c TickIntProcessing }
 {
-    if c != Context::I {
+    if c == Context::T {
         return answered(s, Code::WContext, 0);
     }
     carry::tick(s, run);
