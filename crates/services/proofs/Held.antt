@@ -10,11 +10,11 @@ use Rattle.text.specs.Bytes.{bytes, begins}
 use Rattle.model.specs.Test.{implies}
 use Rattle.model.specs.Services.{Service}
 use Rattle.model.proofs.Words.{table}
-use Rattle.services.specs.declared.names.Name.TheVariants.{Unknown}
+use Rattle.std.specs.Prelude.{None}
 use Rattle.services.specs.Names.{label, begun, name_in, name_of}
 
 -- Keys has it of whatever bytes begin with that name
-pub ready_ticks_unknown : name_of (bytes "ready_ticks,") ≡ Unknown
+pub ready_ticks_unknown : name_of (bytes "ready_ticks,") ≡ None
 unfolding name_of name_in table label begins
 ready_ticks_unknown = refl
 

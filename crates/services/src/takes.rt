@@ -11,6 +11,7 @@ pub enum Takes {
     Timeout,
 }
 
+#[tactic(auto, unfolding(crate::specs::Takes::takes_at, crate::specs::Takes::takes_in, model::proofs::Words::table))]
 fn takes_a(number: u32) -> Takes
     ensures { result ≡ takes_at number 0 }
 {
@@ -26,6 +27,7 @@ fn takes_a(number: u32) -> Takes
     }
 }
 
+#[tactic(auto, unfolding(crate::specs::Takes::takes_at, crate::specs::Takes::takes_in, model::proofs::Words::table))]
 fn takes_b(number: u32) -> Takes
     ensures { result ≡ takes_at number 1 }
 {
@@ -52,6 +54,7 @@ fn takes_b(number: u32) -> Takes
     }
 }
 
+#[tactic(auto, unfolding(crate::specs::Takes::takes_at, crate::specs::Takes::takes_in, model::proofs::Words::table))]
 fn takes_c(number: u32) -> Takes
     ensures { result ≡ takes_at number 2 }
 {
@@ -67,6 +70,7 @@ fn takes_c(number: u32) -> Takes
     }
 }
 
+#[tactic(auto, unfolding(crate::specs::Takes::takes_at, crate::specs::Takes::takes_in, model::proofs::Words::table))]
 fn takes_d(number: u32) -> Takes
     ensures { result ≡ takes_at number 3 }
 {

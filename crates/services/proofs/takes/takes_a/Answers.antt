@@ -13,22 +13,6 @@ use Rattle.services.proofs.takes.takes_a.Goals as goal
 pub returns-then-number-gt41 : goal.returns-then-number-gt41
 returns-then-number-gt41 c = sym (past_table _ 0 (omega (arith, c.if-number-gt41.true)))
 
-pub returns-in-0 : goal.returns-in-0
-unfolding takes_at takes_in table
-returns-in-0 c = rw c.in-0.is
-
-pub returns-in-5 : goal.returns-in-5
-unfolding takes_at takes_in table
-returns-in-5 c = rw c.in-5.is
-
-pub returns-in-9 : goal.returns-in-9
-unfolding takes_at takes_in table
-returns-in-9 c = rw c.in-9.is
-
-pub returns-in-16 : goal.returns-in-16
-unfolding takes_at takes_in table
-returns-in-16 c = rw c.in-16.is
-
 pub returns-in_default : goal.returns-in_default
 unfolding takes_at takes_in table has below
 returns-in_default c = sym (others_take (0 ∷ 5 ∷ 9 ∷ 16 ∷ []) 0 Plain tt _ c.in_default.in_default-own.rest (omega (arith, c.if-number-gt41.false)))

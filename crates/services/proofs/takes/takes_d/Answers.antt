@@ -8,10 +8,6 @@ use Rattle.services.proofs.Numbers.{has, below}
 use Rattle.services.proofs.Taken.{others_blank}
 use Rattle.services.proofs.takes.takes_d.Goals as goal
 
-pub returns-in-30 : goal.returns-in-30
-unfolding takes_at takes_in table
-returns-in-30 c = rw c.in-30.is
-
 pub returns-in_default : goal.returns-in_default
 unfolding takes_at takes_in table has below
 returns-in_default c = sym (others_blank (30 ∷ []) 3 tt _ c.in_default.in_default-own.rest)
