@@ -1,54 +1,36 @@
 -- What follows the field b, read as its code reads it: what stands before the last field, then the last field and the line end.
 -- It rests on the definitions of both kinds of tail.
 use Prim.Native.Nat.{ℕ, ◌+◌}
-use mathlib.Core.Path.{◌≡◌, refl, ap}
+use mathlib.Core.Path.{◌≡◌, refl, sym}
 use mathlib.Core.Bool.{Bool, true, false, cond}
 use mathlib.Core.List.{List}
 use native.Mathlib.Omega.{arith}
-use lib.ListN.{length, drop}
+use lib.ListN.{drop}
+use Rattle.std.specs.Prelude.{Option, Some, None}
 use Rattle.text.specs.declared.number.Number.{Number}
-use Rattle.text.specs.declared.number.Number.TheVariants.{Digits, NoNumber}
-use Rattle.text.proofs.Reading.{NumberIn}
 use Rattle.services.specs.declared.takes.Takes.{Takes}
 use Rattle.services.specs.declared.takes.Takes.TheVariants.{Blank, Plain, Timeout}
 use Rattle.services.specs.Takes.{takes_at}
-use Rattle.lines.specs.declared.fields.Tail.TheVariants.{Two, NoTail}
-use Rattle.lines.specs.Fields.{last_field, tail_field, zero_if_blank, narrow_tail, wide_tail, middle_of, tail_of}
-use Rattle.lines.proofs.Within.{comma_in}
+use Rattle.lines.specs.declared.fields.Tail.{Tail}
+use Rattle.lines.specs.Fields.{and_then, last_field, zero_if_blank, narrow_tail, wide_tail, middle_of, tail_of}
 
-pub middle_in : (wide : Bool) (n : ℕ) (s : List ℕ) → NumberIn (middle_of wide n s) (length s)
-unfolding middle_of
-middle_in true n s = comma_in (takes_at n 2) s
-middle_in false n s = go (takes_at n 3)
-  where
-    go : (d : Takes) → NumberIn (zero_if_blank d) (length s)
-    go Blank = omega arith
-    go Plain = tt
-    go Timeout = tt
+-- x stands before the last field, and y is the last
+abbrev pub both : Bool → Number → Number → Tail
+both wide x y = let n = x.next + y.next in cond wide (record { c = x.value; d = y.value; next = n }) (record { c = y.value; d = 0; next = n })
 
-pub no_middle : (wide : Bool) (n : ℕ) (s : List ℕ) → middle_of wide n s ≡ NoNumber → NoTail ≡ tail_of wide n s
+pub tail_parts : (wide : Bool) (n : ℕ) (s : List ℕ)
+    → tail_of wide n s ≡ and_then (middle_of wide n s) (λ x. and_then (last_field (takes_at n (cond wide 3 2)) (drop x.next s)) (λ y. Some (both wide x y)))
 unfolding middle_of tail_of wide_tail narrow_tail
-no_middle true n s e = rw e
-no_middle false n s e = go (takes_at n 3) e
+tail_parts true n s = refl
+tail_parts false n s = go (takes_at n 3)
   where
-    go : (d : Takes) → zero_if_blank d ≡ NoNumber → NoTail ≡ tail_field (zero_if_blank d) (λ z k. tail_field (last_field (takes_at n 2) s) (λ c i. Two c z i))
-    go Blank e = let z : ◌≡◌ {A = ℕ} 0 1 = cc in absurd (omega arith)
-    go Plain e = refl
-    go Timeout e = refl
+    last : (o : Option Number) → and_then o (λ c. Some (both false (record { value = 0; next = 0 }) c)) ≡ and_then o (λ c. Some (record { c = c.value; d = 0; next = c.next }))
+    last (Some c) = let e : 0 + c.next ≡ c.next = omega arith in rw e
+    last None = refl
 
--- after the first i bytes, of the value v
-pub after_middle : (wide : Bool) (n : ℕ) (s : List ℕ) (v i : ℕ) → middle_of wide n s ≡ Digits v i
-    → tail_of wide n s ≡ tail_field (last_field (takes_at n (cond wide 3 2)) (drop i s)) (λ w j. cond wide (Two v w (i + j)) (Two w 0 (i + j)))
-unfolding middle_of tail_of wide_tail narrow_tail
-after_middle true n s v i e = rw e
-after_middle false n s v i e = go (takes_at n 3) e
-  where
-    last : (x : Number) → tail_field x (λ c i. Two c 0 i) ≡ tail_field x (λ w j. Two w 0 (0 + j))
-    last (Digits c k) = let q : k ≡ 0 + k = omega arith in ap (Two c 0) q
-    last NoNumber = refl
-
-    go : (d : Takes) → zero_if_blank d ≡ Digits v i
-        → tail_field (zero_if_blank d) (λ z k. tail_field (last_field (takes_at n 2) s) (λ c i. Two c z i)) ≡ tail_field (last_field (takes_at n 2) (drop i s)) (λ w j. Two w 0 (i + j))
-    go Blank e = let q : 0 ≡ i = cc in rw (← q) (last (last_field (takes_at n 2) s))
-    go Plain e = let z : ◌≡◌ {A = ℕ} 0 1 = cc in absurd (omega arith)
-    go Timeout e = let z : ◌≡◌ {A = ℕ} 0 1 = cc in absurd (omega arith)
+    go : (d : Takes)
+        → and_then (zero_if_blank d) (λ d. and_then (last_field (takes_at n 2) s) (λ c. Some (record { c = c.value; d = d.value; next = c.next })))
+        ≡ and_then (zero_if_blank d) (λ x. and_then (last_field (takes_at n 2) (drop x.next s)) (λ y. Some (both false x y)))
+    go Blank = sym (last (last_field (takes_at n 2) s))
+    go Plain = refl
+    go Timeout = refl

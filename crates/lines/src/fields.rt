@@ -8,209 +8,182 @@ use services::takes::{Takes, takes_at};
 use text::number::{Number, read_number};
 use text::words::{begins, byte_at};
 
-// What a field says, with its length: a number, the endless wait, or neither.
+// What a field says, with its length: a number, or the endless wait.
 #[derive(Clone, Copy)]
 pub enum Said {
     Says { value: u32, next: usize },
     Forever { next: usize },
-    Unsaid,
-}
-
-// The length of a line end, or no line end.
-#[derive(Clone, Copy)]
-pub enum End {
-    Closes { next: usize },
-    NoEnd,
 }
 
 // The last two numbers with their length, line end included.
 #[derive(Clone, Copy)]
-pub enum Tail {
-    Two { c: u32, d: u32, next: usize },
-    NoTail,
+pub struct Tail {
+    pub c: u32,
+    pub d: u32,
+    pub next: usize,
 }
 
 // The four numbers with their length, line end included.
 #[derive(Clone, Copy)]
-pub enum Fields {
-    Four {
-        a: u32,
-        b: u32,
-        c: u32,
-        d: u32,
-        next: usize,
-    },
-    NoFields,
+pub struct Fields {
+    pub a: u32,
+    pub b: u32,
+    pub c: u32,
+    pub d: u32,
+    pub next: usize,
 }
 
-// What a field says.
-fn read_field(s: &[u8]) -> Said
+// What a field says, if anything.
+#[tactic(auto, unfolding(crate::specs::Fields::said_of))]
+fn read_field(s: &[u8]) -> Option<Said>
     ensures { result ≡ said_of s.now }
 {
-    let Number::Digits { value, next } = read_number(s) else {
-        if begins(s, b"forever") {
-            return Said::Forever { next: 7 };
-        }
-        return Said::Unsaid;
-    };
-    Said::Says { value, next }
+    if let Some(Number { value, next }) = read_number(s) {
+        return Some(Said::Says { value, next });
+    }
+    if begins(s, b"forever") {
+        return Some(Said::Forever { next: 7 });
+    }
+    None
 }
 
 // The endless wait as a number, of n bytes: none where no timeout is taken.
-fn endless_in(takes: Takes, n: usize) -> Number
+fn endless_in(takes: Takes, n: usize) -> Option<Number>
     ensures { result ≡ endless_in takes n }
 {
     match takes {
-        Takes::Blank => Number::NoNumber,
-        Takes::Plain => Number::NoNumber,
-        Takes::Timeout => Number::Digits {
+        Takes::Blank | Takes::Plain => None,
+        Takes::Timeout => Some(Number {
             value: 4294967295,
             next: n,
-        },
+        }),
     }
 }
 
 // The number that is meant.
-fn meant(said: Said, takes: Takes) -> Number
+fn meant(said: Said, takes: Takes) -> Option<Number>
     ensures { result ≡ meant said takes }
 {
     match said {
-        Said::Says { value, next } => Number::Digits { value, next },
+        Said::Says { value, next } => Some(Number { value, next }),
         Said::Forever { next } => endless_in(takes, next),
-        Said::Unsaid => Number::NoNumber,
     }
 }
 
 // A field by what is taken there.
-fn field(s: &[u8], takes: Takes) -> Number
+#[tactic(auto, unfolding(crate::specs::Fields::field_of))]
+fn field(s: &[u8], takes: Takes) -> Option<Number>
     ensures { result ≡ field_of takes s.now }
 {
-    let Takes::Blank = takes else {
-        return meant(read_field(s), takes);
-    };
-    Number::Digits { value: 0, next: 0 }
+    match takes {
+        Takes::Blank => Some(Number { value: 0, next: 0 }),
+        Takes::Plain | Takes::Timeout => meant(read_field(s)?, takes),
+    }
 }
 
 // A field and the comma after it.
-fn comma_field(s: &[u8], takes: Takes) -> Number
+#[tactic(auto, unfolding(crate::specs::Fields::comma_field))]
+fn comma_field(s: &[u8], takes: Takes) -> Option<Number>
     ensures { result ≡ comma_field takes s.now }
 {
-    let Number::Digits { value, next } = field(s, takes) else {
-        return Number::NoNumber;
-    };
-    let b = byte_at(s, next);
-    if b == b',' {
-        return Number::Digits {
-            value,
-            next: next + 1,
-        };
+    let Number { value, next } = field(s, takes)?;
+    if byte_at(s, next) != b',' {
+        return None;
     }
-    Number::NoNumber
+    Some(Number {
+        value,
+        next: next + 1,
+    })
 }
 
-// LF, CR LF or the end of the file.
-pub(crate) fn line_end(s: &[u8]) -> End
+// LF, CR LF or the end of the file: its length.
+#[tactic(auto, unfolding(crate::specs::Fields::end_of))]
+pub(crate) fn line_end(s: &[u8]) -> Option<usize>
     ensures { result ≡ end_of s.now }
 {
     if s.len() == 0 {
-        return End::Closes { next: 0 };
+        return Some(0);
     }
     if begins(s, b"\n") {
-        return End::Closes { next: 1 };
+        return Some(1);
     }
     if begins(s, b"\r\n") {
-        return End::Closes { next: 2 };
+        return Some(2);
     }
-    End::NoEnd
+    None
 }
 
 // The last field and the line end.
-fn last_field(s: &[u8], takes: Takes) -> Number
+#[tactic(auto, unfolding(crate::specs::Fields::last_field))]
+fn last_field(s: &[u8], takes: Takes) -> Option<Number>
     ensures { result ≡ last_field takes s.now }
 {
-    let Number::Digits { value, next } = field(s, takes) else {
-        return Number::NoNumber;
-    };
-    let End::Closes { next: end } = line_end(&s[next..]) else {
-        return Number::NoNumber;
-    };
-    Number::Digits {
+    let Number { value, next } = field(s, takes)?;
+    let end = line_end(&s[next..])?;
+    Some(Number {
         value,
         next: next + end,
-    }
+    })
 }
 
 // What stands before the last field: c and its comma, or nothing.
-fn middle(s: &[u8], wide: bool, number: u32) -> Number
+#[tactic(auto, unfolding(crate::specs::Fields::middle_of))]
+fn middle(s: &[u8], wide: bool, number: u32) -> Option<Number>
     ensures { result ≡ middle_of wide number s.now }
 {
     if wide {
         return comma_field(s, takes_at(number, 2));
     }
     let Takes::Blank = takes_at(number, 3) else {
-        return Number::NoNumber;
+        return None;
     };
-    Number::Digits { value: 0, next: 0 }
+    Some(Number { value: 0, next: 0 })
 }
 
 // What is taken in the last field, d or c.
 fn last_takes(wide: bool, number: u32) -> Takes
     ensures { result ≡ takes_at number (cond wide 3 2) }
 {
-    if wide {
-        return takes_at(number, 3);
-    }
-    takes_at(number, 2)
+    takes_at(number, if wide { 3 } else { 2 })
 }
 
 // The fields c and d, or c alone, and the line end: one reader of the last field serves both, and so stands where it is called.
-fn read_tail(s: &[u8], wide: bool, number: u32) -> Tail
+#[tactic(auto, using(crate::proofs::Tails::tail_parts))]
+fn read_tail(s: &[u8], wide: bool, number: u32) -> Option<Tail>
     ensures { result ≡ tail_of wide number s.now }
 {
-    let Number::Digits { value, next } = middle(s, wide, number) else {
-        return Tail::NoTail;
-    };
+    let Number { value, next } = middle(s, wide, number)?;
     let takes = last_takes(wide, number);
-    let Number::Digits {
-        value: last,
-        next: end,
-    } = last_field(&s[next..], takes)
-    else {
-        return Tail::NoTail;
-    };
+    let last = last_field(&s[next..], takes)?;
+    let next = next + last.next;
     if wide {
-        return Tail::Two {
+        return Some(Tail {
             c: value,
-            d: last,
-            next: next + end,
-        };
+            d: last.value,
+            next,
+        });
     }
-    Tail::Two {
-        c: last,
+    Some(Tail {
+        c: last.value,
         d: 0,
-        next: next + end,
-    }
+        next,
+    })
 }
 
 // The fields a, b, c and d of a service; only wide lines have a d.
-pub(crate) fn read_fields(s: &[u8], wide: bool, number: u32) -> Fields
+#[tactic(auto, unfolding(crate::specs::Fields::fields_of))]
+pub(crate) fn read_fields(s: &[u8], wide: bool, number: u32) -> Option<Fields>
     ensures { result ≡ fields_of wide number s.now }
 {
-    let Number::Digits { value: a, next: i } = comma_field(s, takes_at(number, 0)) else {
-        return Fields::NoFields;
-    };
-    let Number::Digits { value: b, next: j } = comma_field(&s[i..], takes_at(number, 1)) else {
-        return Fields::NoFields;
-    };
+    let Number { value: a, next: i } = comma_field(s, takes_at(number, 0))?;
+    let Number { value: b, next: j } = comma_field(&s[i..], takes_at(number, 1))?;
     let at = i + j;
-    let Tail::Two { c, d, next: k } = read_tail(&s[at..], wide, number) else {
-        return Fields::NoFields;
-    };
-    Fields::Four {
+    let Tail { c, d, next: k } = read_tail(&s[at..], wide, number)?;
+    Some(Fields {
         a,
         b,
         c,
         d,
         next: at + k,
-    }
+    })
 }
