@@ -3,44 +3,40 @@
 ghost use Rattle.std.specs.Prelude.{◌≡◌};
 ghost use Rattle.model.specs.declared.Context.TheVariants.{I};
 ghost use Rattle.model.specs.declared.Call.TheVariants.{OnQueue};
+ghost use Rattle.checks.specs.Gate.{plan_of, IsDecision};
 ghost use Rattle.model.specs.Services.{is_mine};
 ghost use Rattle.model.specs.Call.{planned_from};
-ghost use Rattle.tables.specs.Lent.{state_in};
 
 use crate::is_mine;
-use model::{Context, Plan, QueueService};
-use numbers::NumberTable;
+use model::{Code, Context, Plan, QueueService, State};
 use plans_queue::queue_plan;
-use queues::{Levels, Waits};
-use stored::{Bytes, Words, record_at};
+use stored::record_at;
 use tables::queue_at;
 
 // A service of data queues belongs to interrupts.
+#[tactic(auto, unfolding(model::specs::Services::is_mine, model::proofs::Words::table))]
 fn is_queue_inside(service: QueueService) -> bool
     ensures { result ≡ is_mine I (OnQueue 0 service) }
 {
-    match service {
-        QueueService::IsendPolling { .. } => true,
-        QueueService::Ireceive => true,
-        _ => false,
-    }
+    matches!(
+        service,
+        QueueService::IsendPolling { .. } | QueueService::Ireceive
+    )
 }
 
+#[tactic(auto, unfolding(model::specs::Call::plan, model::specs::Services::is_mine))]
 pub fn queue_plan_in(
-    bytes: &Bytes,
-    words: &Words,
-    levels: &Levels,
-    waits: &Waits,
-    numbers: &NumberTable,
+    s: &State,
     run: u8,
     c: Context,
     queue: u32,
     service: QueueService,
-) -> Plan
-    ensures { result ≡ planned_from run (state_in bytes.now words.now levels.now waits.now numbers.now) c (OnQueue queue service) }
+) -> Result<Plan, Code>
+    ensures plan { plan_of result ≡ planned_from run s.now c (OnQueue queue service) }
+    ensures decision { IsDecision result }
 {
-    let z = queue_at(bytes, words, waits, numbers, queue as usize);
-    let k = record_at(bytes, words, run as usize);
+    let z = queue_at(s, queue as usize);
+    let k = record_at(&s.tasks, run as usize);
     queue_plan(
         is_mine(c, is_queue_inside(service)),
         queue,
