@@ -1,4 +1,4 @@
-// Every call's plan on the tables: each arm looks at what its service asks for, and at nothing else.
+// Every call's plan on a state: each arm looks at what its service asks for, and at nothing else.
 // It is `planned_from` of model/specs/Call, for every value; it rests on plans_task, plans_semaphore, plans_flag and plans_queue.
 #![tactic(auto)]
 

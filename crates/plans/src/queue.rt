@@ -1,4 +1,4 @@
-// The plan of a service of data queues on the tables: who runs and the queue are looked at, and nothing else.
+// The plan of a service of data queues on a state: who runs and the queue are looked at, and nothing else.
 // It is `planned_from` of model/specs/Call for these calls, for every value; it rests on plans_queue.
 ghost use Rattle.std.specs.Prelude.{◌≡◌};
 ghost use Rattle.model.specs.declared.Context.TheVariants.{I};
