@@ -4,10 +4,10 @@
 
 ghost use Rattle.std.specs.Prelude.{◌≡◌};
 ghost use Rattle.model.specs.Code.{number};
-ghost use Rattle.border.specs.Border.{context_of, place_of, meant, reply};
+ghost use Rattle.border.specs.Border.{context_of, reply};
 
 use model::{Call, Code, Context, State};
-use services::calls::{Asked, call_of};
+use services::calls::call_of;
 
 // A call's answer in plain numbers: the paper's code, the task that then runs, the bits or the element that a wait or poll got at once or the
 // ticks that were asked for, the next state.
@@ -20,19 +20,15 @@ pub struct Reply {
     pub state: State,
 }
 
-#[derive(Clone, Copy)]
-pub enum From {
-    Known(Context),
-    Nowhere,
-}
-
-fn context_of(n: u32) -> From
+// The context of a number; C has no other way to name one.
+#[tactic(auto, unfolding(crate::specs::Border::context_of))]
+fn context_of(n: u32) -> Option<Context>
     ensures { result ≡ context_of n }
 {
     match n {
-        0 => From::Known(Context::T),
-        1 => From::Known(Context::I),
-        _ => From::Nowhere,
+        0 => Some(Context::T),
+        1 => Some(Context::I),
+        _ => None,
     }
 }
 
@@ -55,39 +51,17 @@ fn code_number(code: Code) -> i32
     }
 }
 
-// The context, and the call, that numbers ask for. Where they name nothing, it is a call that every sound state refuses for its numbers.
-fn place_of(from: From) -> Context
-    ensures { result ≡ place_of from }
-{
-    match from {
-        From::Known(context) => context,
-        From::Nowhere => Context::T,
-    }
-}
-
-fn meant(from: From, asked: Asked) -> Call
-    ensures { result ≡ meant from asked }
-{
-    let From::Known(_context) = from else {
-        return Call::TaskDelete { task: 0 };
-    };
-    let Asked::Named(call) = asked else {
-        return Call::TaskDelete { task: 0 };
-    };
-    call
-}
-
 pub fn call_by_number(s: State, context: u32, service: u32, a: u32, b: u32, c: u32, d: u32) -> Reply
     ensures { result ≡ reply s context service a b c d }
 {
-    let from = context_of(context);
-    let r = kernel::call(s, place_of(from), meant(from, call_of(service, a, b, c, d)));
-    let code = r.code;
-    let state = r.state;
+    let asked = context_of(context).zip(call_of(service, a, b, c, d));
+    // where they name nothing, it is a call that every sound state refuses for its numbers
+    let (context, call) = asked.unwrap_or((Context::T, Call::TaskDelete { task: 0 }));
+    let r = kernel::call(s, context, call);
     Reply {
-        code: code_number(code),
-        running: r.running as u32,
+        code: code_number(r.code),
+        running: u32::from(r.running),
         value: r.value,
-        state,
+        state: r.state,
     }
 }

@@ -1,4 +1,4 @@
-// What every service's plan begins with: the ranges of a call's numbers, the order of checks, and the plans that refuse and accept.
+// What every service's plan begins with: the ranges of a call's numbers, the order of checks, and the plans that accept.
 // Each function is a definition of model/specs/Plan or of specs/Gate, for every value; it rests on model, and on records for the timeout that never ends.
 #![tactic(auto)]
 
@@ -6,20 +6,19 @@ ghost use Rattle.std.specs.Prelude.{◌≡◌};
 ghost use Rattle.model.specs.declared.Code.TheVariants.{Pending};
 ghost use Rattle.model.specs.declared.Effect.TheVariants.{Moves, Counts, Flags};
 ghost use Rattle.model.specs.Flag.{is_attributes};
-ghost use Rattle.model.specs.Plan.{within, is_task, is_priority, is_semaphore, is_maximum, is_timeout, is_slice, is_flag, is_queue, does, answers, gives, refused};
+ghost use Rattle.model.specs.Plan.{within, is_task, is_priority, is_semaphore, is_maximum, is_timeout, is_slice, is_flag, is_queue, does, answers, gives};
 ghost use Rattle.checks.specs.Gate.{gate};
 
 use model::{Code, Effect, Plan, Task};
 use records::ENDLESS;
 
 // ---- ranges
+// Each is one call of the one test with its own limits: a constant stands in the code where a reader compares it with the paper.
+#[tactic(auto, unfolding(model::specs::Plan::within))]
 fn within(low: u32, n: u32, top: u32) -> bool
     ensures { result ≡ within low n top }
 {
-    if low <= n {
-        return n <= top;
-    }
-    false
+    low <= n && n <= top
 }
 
 pub fn is_task(t: u32) -> bool
@@ -77,52 +76,31 @@ pub fn is_attributes(n: u32) -> bool
 }
 
 // ---- the order of checks
-// What the checks that every call has in common come to.
-#[derive(Clone, Copy)]
-pub enum Gate {
-    Passes,
-    Refuses { code: Code },
-}
-
 // Numbers out of range or an existing object, a missing object, the context; then the call's own tests.
 #[tactic(auto, unfolding(crate::specs::Gate::gate))]
-pub fn checked(right: bool, there: bool, mine: bool) -> Gate
+pub fn checked(right: bool, there: bool, mine: bool) -> Result<(), Code>
     ensures { result ≡ gate right there mine }
 {
-    if right {
-        if there {
-            if mine {
-                return Gate::Passes;
-            }
-            return Gate::Refuses {
-                code: Code::WContext,
-            };
-        }
-        return Gate::Refuses { code: Code::NoExs };
+    if !right {
+        return Err(Code::WrongParam);
     }
-    Gate::Refuses {
-        code: Code::WrongParam,
+    if !there {
+        return Err(Code::NoExs);
     }
+    if !mine {
+        return Err(Code::WContext);
+    }
+    Ok(())
 }
 
 // ---- plans
-pub fn refused(code: Code) -> Plan
-    ensures { result ≡ refused code }
-{
-    Plan {
-        code: code,
-        value: 0,
-        effect: Effect::Nothing,
-    }
-}
-
 pub fn does(effect: Effect) -> Plan
     ensures { result ≡ does effect }
 {
     Plan {
         code: Code::NoErr,
         value: 0,
-        effect: effect,
+        effect,
     }
 }
 
@@ -130,9 +108,9 @@ fn answers(code: Code, effect: Effect) -> Plan
     ensures { result ≡ answers code effect }
 {
     Plan {
-        code: code,
+        code,
         value: 0,
-        effect: effect,
+        effect,
     }
 }
 
@@ -141,8 +119,8 @@ pub fn gives(value: u32, effect: Effect) -> Plan
 {
     Plan {
         code: Code::NoErr,
-        value: value,
-        effect: effect,
+        value,
+        effect,
     }
 }
 
@@ -150,19 +128,16 @@ pub fn gives(value: u32, effect: Effect) -> Plan
 pub fn moves(task: u8, k: Task) -> Plan
     ensures { result ≡ does (Moves task k) }
 {
-    does(Effect::Moves {
-        task: task,
-        record: k,
-    })
+    does(Effect::Moves { task, record: k })
 }
 
 pub fn counts(semaphore: u8, count: u32, maximum: u32) -> Plan
     ensures { result ≡ does (Counts semaphore count maximum) }
 {
     does(Effect::Counts {
-        semaphore: semaphore,
-        count: count,
-        maximum: maximum,
+        semaphore,
+        count,
+        maximum,
     })
 }
 
@@ -170,9 +145,9 @@ pub fn flags(flag: u8, attributes: u32, bits: u32) -> Plan
     ensures { result ≡ does (Flags flag attributes bits) }
 {
     does(Effect::Flags {
-        flag: flag,
-        attributes: attributes,
-        bits: bits,
+        flag,
+        attributes,
+        bits,
     })
 }
 
@@ -180,11 +155,5 @@ pub fn flags(flag: u8, attributes: u32, bits: u32) -> Plan
 pub fn pending(task: u8, k: Task) -> Plan
     ensures { result ≡ answers Pending (Moves task k) }
 {
-    answers(
-        Code::Pending,
-        Effect::Moves {
-            task: task,
-            record: k,
-        },
-    )
+    answers(Code::Pending, Effect::Moves { task, record: k })
 }

@@ -1,41 +1,34 @@
--- Crossing off is the test of model: the queues that a flat table stands for list exactly the tasks with their keys, once each.
--- Rests on Rows, and on the bridge of queues.
+-- Crossing off is the test of model: the queues of a table list exactly the tasks with their keys, once each.
+-- Rests on Rows.
 use mathlib.Core.Path.{◌≡◌, refl, sym, ap, ◌∙◌, fun_ext}
 use mathlib.Core.Bool.{Bool, true, false, ◌&&◌, ◌||◌, or-true}
 use mathlib.Core.List.{List}
 use mathlib.Core.Logic.{◌⊎◌, inl, inr, ⊎_elim}
-use Prim.Native.Nat.{ℕ, zero, suc, ◌+◌, ◌*◌, ◌≤◌}
+use Prim.Native.Nat.{ℕ, zero, suc, ◌+◌, ◌≤◌}
 use native.Mathlib.Decide.{ℕ_discrete, dec_lt}
 use native.Mathlib.Omega.{arith}
 use lib.Dec.{eqb}
-use lib.ListN.{length, get_or, take, drop, replicate, get_or-eq_default}
-use lib.Seq.{drop-drop}
+use lib.ListN.{length, get_or, drop, replicate, drop_of_length-le, get_or-eq_default}
+use lib.Seq.{drop-cons}
 use borrow.Author.Tests.{eq-eqb, eqb-true}
 use Rattle.model.specs.declared.Queue.{Queue}
-use Rattle.model.specs.Row.{row}
+use Rattle.model.specs.Row.{no_queue, row}
 use Rattle.model.specs.Test.{below, every_row, occ, zeros, lists_only, is_filed, lists_exactly}
 use Rattle.laws.proofs.Table.{row_past}
-use Rattle.rows.specs.Flat.{row_in}
-use Rattle.queues.specs.Queues.{queues_of}
-use Rattle.queues.proofs.Bridge.{length_queues, row_queue}
 use Rattle.crossing.specs.Crossing.{crosses, crossed, crosses_all}
 use Rattle.crossing.proofs.Tests.{both, and_both, same_tests, below_at, below_all, listed_by, zeros-occ, zeros_at, zeros_all, lists_only_more, every_row_more}
 use Rattle.crossing.proofs.Rows.{wanting, Fate, fate, crossed_lists, lists_crossed, crossed_none}
 
--- ---- over queues
+-- ---- by the numbers of rows
 -- n of them, from row l on, cross off all that is wanted
 crosses_rows : ℕ → ℕ → List Queue → List ℕ → Bool
 crosses_rows zero l qs w = zeros w
 crosses_rows (suc n) l qs w = crosses l (row qs l) w && crosses_rows n (suc l) qs (crossed l (row qs l) w)
 
-rows_crossed : (n l k : ℕ) (ls w : List ℕ) → l + n ≡ k → crosses_all n l (drop (l * 24) ls) w ≡ crosses_rows n l (queues_of k ls) w
-unfolding crosses_all crosses_rows row_in
-rows_crossed zero l k ls w e = refl
-rows_crossed (suc n) l k ls w e =
-    let a : l * 24 + 24 ≡ suc l * 24 = omega arith in
-    let d : drop 24 (drop (l * 24) ls) ≡ drop (suc l * 24) ls = drop-drop 24 (l * 24) ls ∙ rw a in
-    let r : row (queues_of k ls) l ≡ take 24 (drop (l * 24) ls) = row_queue k l ls (omega arith) in
-    rw (r, d, rows_crossed n (suc l) k ls (crossed l (take 24 (drop (l * 24) ls)) w) (omega arith))
+rows_crossed : (n l : ℕ) (qs : List Queue) (w : List ℕ) → l + n ≡ length qs → crosses_all l (drop l qs) w ≡ crosses_rows n l qs w
+unfolding crosses_all crosses_rows row
+rows_crossed zero l qs w e = rw (drop_of_length-le qs {i = l} (omega arith))
+rows_crossed (suc n) l qs w e = rw (drop-cons qs l no_queue (omega arith), rows_crossed n (suc l) qs (crossed l (row qs l) w) (omega arith))
 
 -- each row lists only tasks that want it
 abbrev Listed : ℕ → ℕ → List Queue → List ℕ → Type 0
@@ -154,15 +147,12 @@ module _ (qs : List Queue) (w : List ℕ) (t : ℕ) where
       (λ k. rw (eq-eqb (occ t (row qs (get_or w t 0))) 1 k.1) (or-true (eqb (get_or w t 0) 0)))
       f
 
-module _ (n : ℕ) (ls w : List ℕ) (wide : length w ≤ 25) (origin : get_or w 0 0 ≡ 0) where
-  abbrev qs : List Queue
-  qs = queues_of n ls
-
+module _ (n : ℕ) (qs : List Queue) (w : List ℕ) (all : length qs ≡ n) (wide : length w ≤ 25) (origin : get_or w 0 0 ≡ 0) where
   rows_exactly : crosses_rows n 0 qs w ≡ lists_exactly qs n (λ t. get_or w t 0)
   unfolding lists_exactly
   rows_exactly = same_tests (crosses_rows n 0 qs w) (listed && filed)
       (λ h. let r = all_fate n 0 qs w h in and_both listed filed r.0 (below_all (λ t. is_filed qs (λ u. get_or w u 0) t) 25 (λ t p. filed_as qs w t (from1 r.1 t))))
-      (λ h. let b = both listed filed h in all_crossed n 0 qs w (omega (arith, length_queues n 0 ls)) origin b.0 (λ t p. from25 b.1 t))
+      (λ h. let b = both listed filed h in all_crossed n 0 qs w (omega arith) origin b.0 (λ t p. from25 b.1 t))
     where
       listed : Bool
       listed = every_row n 0 (λ l q. lists_only (wanting w l) q) qs
@@ -181,5 +171,5 @@ module _ (n : ℕ) (ls w : List ℕ) (wide : length w ≤ 25) (origin : get_or w
       ]
 
   -- for any name of what is wanted
-  pub exactly : (key : ℕ → ℕ) → ((t : ℕ) → key t ≡ get_or w t 0) → crosses_all n 0 ls w ≡ lists_exactly qs n key
-  exactly key e = rows_crossed n 0 n ls w (omega arith) ∙ rows_exactly ∙ ap (lists_exactly qs n) (sym (fun_ext e))
+  pub exactly : (key : ℕ → ℕ) → ((t : ℕ) → key t ≡ get_or w t 0) → crosses_all 0 qs w ≡ lists_exactly qs n key
+  exactly key e = rows_crossed n 0 qs w (omega arith) ∙ rows_exactly ∙ ap (lists_exactly qs n) (sym (fun_ext e))

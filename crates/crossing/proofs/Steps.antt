@@ -3,16 +3,16 @@
 use mathlib.Core.Path.{◌≡◌, refl, sym, ◌∙◌}
 use mathlib.Core.Bool.{Bool, true, false, ◌&&◌, not, and_assoc, and-true, and-false}
 use mathlib.Core.List.{List, [], ◌∷◌}
-use Prim.Native.Nat.{ℕ, zero, suc, ◌+◌, ◌-◌, ◌≤◌, ◌<◌}
-use native.Mathlib.Decide.{ℕ_discrete, dec_lt}
+use Prim.Native.Nat.{ℕ, zero, suc, ◌+◌, ◌≤◌, ◌<◌}
+use native.Mathlib.Decide.{ℕ_discrete}
 use native.Mathlib.Numerals.{add-one}
-use native.Mathlib.Omega.{arith}
 use lib.Dec.{eqb}
-use lib.ListN.{length, get_or, set, take, drop, length-drop, drop_of_length-le, get_or-eq_default}
-use lib.Seq.{drop-cons, drop-drop, take_all}
-use borrow.Author.Tests.{eq-eqb, ne_eqb, lt-ltb, le-ltb}
+use lib.ListN.{length, get_or, set, drop, drop_of_length-le, get_or-eq_default}
+use lib.Seq.{drop-cons}
+use borrow.Author.Tests.{eq-eqb, ne_eqb}
+use Rattle.model.specs.declared.Queue.{Queue}
 use Rattle.model.specs.Test.{zeros, is_listed}
-use Rattle.crossing.specs.Crossing.{crosses, crossed, crosses_all, row_end}
+use Rattle.crossing.specs.Crossing.{crosses, crossed, crosses_all}
 
 -- ---- zeros. Past the end of a list every place reads as 0
 zeros_next : (q : List ℕ) (i : ℕ) → zeros (drop i q) ≡ (eqb (get_or q i 0) 0 && zeros (drop (suc i) q))
@@ -30,11 +30,9 @@ module _ (q : List ℕ) (i : ℕ) where
       rw add-one (f ∙ sym (and_assoc clear (eqb (get_or q i 0) 0) (zeros (drop (suc i) q))))
 
   -- and at the end what was seen
-  pub zeros_end : (clear r : Bool) → length q ≤ i → r ≡ (clear && zeros (drop i q)) → clear ≡ r
+  pub zeros_end : (clear : Bool) → length q ≤ i → (clear && zeros (drop i q)) ≡ clear
   unfolding zeros
-  zeros_end clear r h e =
-      let f : r ≡ (clear && true) = rw (drop_of_length-le q h) at e in
-      sym (f ∙ and-true clear)
+  zeros_end clear h = rw (drop_of_length-le q h) (and-true clear)
 
 -- ---- one row. What is said of `crosses` and of `crossed` from place i on
 module _ (l : ℕ) (w : List ℕ) where
@@ -66,53 +64,21 @@ module _ (l : ℕ) (w : List ℕ) where
     unfolding crosses crossed
     crosses_on h n e = (rw (add-one, drop-cons q i 0 h, ne_eqb t 0 n, e), rw (add-one, drop-cons q i 0 h, ne_eqb t 0 n, e))
 
--- ---- rows
-module _ (ls : List ℕ) (at : ℕ) where
-  -- the row that begins at a place
-  abbrev pub row_at : List ℕ
-  row_at = take (row_end at (length ls) - at) (drop at ls)
+-- ---- the table
+module _ (ls : List Queue) (l : ℕ) (d : Queue) (w : List ℕ) where
+  abbrev q : List ℕ
+  q = (get_or ls l d).places
 
-  pub end_high : at ≤ length ls → at ≤ row_end at (length ls)
-  unfolding row_end
-  end_high h = elim (dec_lt (length ls - at) 24) [ yes p ↦ rw (lt-ltb _ _ p) h | no p ↦ rw (le-ltb (length ls - at) 24 (omega arith)) (omega arith) ]
+  rows_on : l < length ls → crosses_all l (drop l ls) w ≡ (crosses l q w && crosses_all (l + 1) (drop (l + 1) ls) (crossed l q w))
+  unfolding crosses_all
+  rows_on h = rw (add-one, drop-cons ls l d h)
 
-  pub end_low : row_end at (length ls) ≤ length ls
-  unfolding row_end
-  end_low = elim (dec_lt (length ls - at) 24) [ yes p ↦ rw (lt-ltb _ _ p) (omega arith) | no p ↦ rw (le-ltb (length ls - at) 24 (omega arith)) (omega arith) ]
+  pub rows_fail : l < length ls → crosses l q w ≡ false → crosses_all l (drop l ls) w ≡ false
+  rows_fail h e = rows_on h ∙ rw e
 
-  row_taken : at ≤ length ls → take 24 (drop at ls) ≡ row_at
-  unfolding row_end
-  row_taken h = elim (dec_lt (length ls - at) 24) [
-    | yes p ↦ rw (lt-ltb _ _ p) (take_all 24 (drop at ls) (rw length-drop (omega arith)) ∙ sym (take_all (length ls - at) (drop at ls) (rw length-drop (omega arith))))
-    | no p ↦
-        let e : at + 24 - at ≡ 24 = omega arith in
-        rw (le-ltb (length ls - at) 24 (omega arith), e)
-  ]
+  pub rows_crossed : l < length ls → crosses l q w ≡ true → crosses_all l (drop l ls) w ≡ crosses_all (l + 1) (drop (l + 1) ls) (crossed l q w)
+  rows_crossed h e = rows_on h ∙ rw e
 
-  row_dropped : at ≤ length ls → drop 24 (drop at ls) ≡ drop (row_end at (length ls)) ls
-  unfolding row_end
-  row_dropped h = elim (dec_lt (length ls - at) 24) [
-    | yes p ↦ rw (lt-ltb _ _ p, drop-drop 24 at ls) (drop_of_length-le ls {i = at + 24} (omega arith) ∙ sym (drop_of_length-le ls {i = length ls} (omega arith)))
-    | no p ↦ rw (le-ltb (length ls - at) 24 (omega arith)) (drop-drop 24 at ls)
-  ]
-
-  -- the row at hand, and then the rows behind it
-  module _ (n l : ℕ) (w : List ℕ) (end : ℕ) (e : end ≡ row_end at (length ls)) (p : l < n) (h : at ≤ length ls) where
-    abbrev q : List ℕ
-    q = take (end - at) (drop at ls)
-
-    row_on : crosses_all (n - l) l (drop at ls) w ≡ (crosses l q w && crosses_all (n - (l + 1)) (l + 1) (drop end ls) (crossed l q w))
-    unfolding crosses_all
-    row_on =
-        let k : n - l ≡ suc (n - (l + 1)) = omega arith in
-        rw (e, k, row_taken h, row_dropped h, add-one)
-
-    pub row_fails : crosses l q w ≡ false → crosses_all (n - l) l (drop at ls) w ≡ false
-    row_fails k = row_on ∙ rw k
-
-    pub row_crossed : crosses l q w ≡ true → crosses_all (n - l) l (drop at ls) w ≡ crosses_all (n - (l + 1)) (l + 1) (drop end ls) (crossed l q w)
-    row_crossed k = row_on ∙ rw k
-
-pub rows_done : (n l : ℕ) (ls w : List ℕ) → n ≤ l → crosses_all (n - l) l ls w ≡ zeros w
+pub rows_done : (ls : List Queue) (l : ℕ) (w : List ℕ) → length ls ≤ l → crosses_all l (drop l ls) w ≡ zeros w
 unfolding crosses_all
-rows_done n l ls w h = let e : n - l ≡ 0 = omega arith in rw e
+rows_done ls l w h = rw (drop_of_length-le ls h)

@@ -1,6 +1,7 @@
 -- Crossing off: each task that stands in a row must want that row, and from then on wants nothing. At the end nobody wants a row.
 -- A wants list has the row that each task wants, 0 for none. Rests on the rows of model.
-use Rattle.std.specs.Prelude.{Bool, true, cond, ◌&&◌, List, [], ◌∷◌, ℕ, zero, suc, ◌+◌, ◌-◌, eqb, ltb, get_or, set, take, drop}
+use Rattle.std.specs.Prelude.{Bool, true, cond, ◌&&◌, List, [], ◌∷◌, ℕ, suc, eqb, get_or, set}
+use Rattle.model.specs.declared.Queue.{Queue}
 use Rattle.model.specs.Test.{zeros, is_listed}
 
 -- each task of row l wants it as its turn comes, and from the first 0 on there are zeros
@@ -13,11 +14,7 @@ unfoldable pub crossed : ℕ → List ℕ → List ℕ → List ℕ
 crossed l [] w = w
 crossed l (x ∷ q) w = let rest = crossed l q (set w x 0) in cond (eqb x 0) w (cond (is_listed l (get_or w x 0)) rest w)
 
--- n rows, the first of which is row l, cross off all that is wanted
-unfoldable pub crosses_all : ℕ → ℕ → List ℕ → List ℕ → Bool
-crosses_all zero l ls w = zeros w
-crosses_all (suc n) l ls w = crosses l (take 24 ls) w && crosses_all n (suc l) (drop 24 ls) (crossed l (take 24 ls) w)
-
--- where the row that begins at a place ends, in a table of n places
-unfoldable pub row_end : ℕ → ℕ → ℕ
-row_end at n = cond (ltb (n - at) 24) n (at + 24)
+-- the queues of a table, the first of which is row l, cross off all that is wanted
+unfoldable pub crosses_all : ℕ → List Queue → List ℕ → Bool
+crosses_all l [] w = zeros w
+crosses_all l (q ∷ qs) w = crosses l q.places w && crosses_all (suc l) qs (crossed l q.places w)

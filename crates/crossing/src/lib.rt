@@ -2,52 +2,51 @@
 // Each function is a definition of specs/Crossing, for every value; it rests on model alone.
 #![tactic(auto)]
 
-ghost use Rattle.std.specs.Prelude.{◌≡◌, length, drop};
+ghost use Rattle.std.specs.Prelude.{◌≡◌, drop, ◌≤◌};
 ghost use Rattle.model.specs.Test.{zeros, is_listed};
-ghost use Rattle.crossing.specs.Crossing.{crosses, crossed, crosses_all, row_end};
+ghost use Rattle.crossing.specs.Crossing.{crosses, crossed, crosses_all};
 
-fn is_listed(l: u8, want: u8) -> bool
+use model::Queue;
+
+fn is_listed(l: usize, want: u8) -> bool
     ensures { result ≡ is_listed l want }
 {
     if l == 0 {
         return false;
     }
-    want == l
+    want as usize == l
 }
 
-// Whether there are only zeros from a place on, in a list of n: no way out of the loop, so that it looks at several places at a time.
-fn zeros_from(q: &[u8], from: usize, n: usize) -> bool
-    requires { length q.now ≡ n }
-    ensures { result ≡ zeros (drop from q.now) }
+// Whether there are only zeros. By a loop with no way out, and not by `all`, so that it looks at several places at a time.
+#[tactic(auto, using(crate::proofs::Steps::zeros_on, crate::proofs::Steps::zeros_end))]
+fn are_zeros(q: &[u8]) -> bool
+    ensures { result ≡ zeros q.now }
 {
     let mut clear = true;
-    let mut i = from;
-    while i < n {
-        clear = clear & (q[i] == 0);
-        i += 1;
+    for x in q {
+        clear = clear & (*x == 0);
     }
     clear
 }
 
-// The same of a row. Most rows are empty: of a whole one the compiler knows how many places there are.
-fn rest_is_free(q: &[u8], from: usize) -> bool
+// The same of a row from a place on. Most rows are empty: of a whole one the compiler knows how many places there are.
+fn rest_is_free(q: &[u8; 24], from: usize) -> bool
+    requires { from ≤ 24 }
     ensures { result ≡ zeros (drop from q.now) }
 {
     if from == 0 {
-        if q.len() == 24 {
-            return zeros_from(q, 0, 24);
-        }
+        return are_zeros(q);
     }
-    zeros_from(q, from, q.len())
+    are_zeros(&q[from..])
 }
 
 // Crosses the tasks of row l off.
-fn cross(q: &[u8], l: u8, wants: &mut [u8]) -> bool
+#[tactic(auto, using(crate::proofs::Steps::far_listed, crate::proofs::Steps::crosses_done, crate::proofs::Steps::crosses_ends, crate::proofs::Steps::crosses_fails))]
+fn cross(q: &[u8; 24], l: usize, wants: &mut [u8]) -> bool
     ensures { (result ≡ crosses l q.now wants.old) × (wants.new ≡ crossed l q.now wants.old) }
 {
-    let mut i: usize = 0;
-    while i < q.len() {
-        let t = q[i] as usize;
+    for (i, x) in q.iter().enumerate() {
+        let t = *x as usize;
         if t == 0 {
             return rest_is_free(q, i);
         }
@@ -60,39 +59,21 @@ fn cross(q: &[u8], l: u8, wants: &mut [u8]) -> bool
             return false;
         }
         wants[t] = 0;
-        i += 1;
     }
     true
 }
 
-// Where the row that begins at a place ends, in a table of that many places.
-fn row_end(at: usize, places: usize) -> usize
-    ensures { result ≡ row_end at places }
-{
-    if places <= at {
-        return places;
-    }
-    if places - at < 24 {
-        return places;
-    }
-    at + 24
-}
-
-// Whether n rows cross off all that is wanted.
-pub fn cross_all(ls: &[u8], n: u8, wants: [u8; 25]) -> bool
-    ensures { result ≡ crosses_all n 0 ls.now wants }
+// Whether the queues cross off all that is wanted.
+#[tactic(auto, using(crate::proofs::Steps::rows_fail, crate::proofs::Steps::rows_crossed, crate::proofs::Steps::rows_done))]
+pub fn cross_all(ls: &[Queue], wants: [u8; 25]) -> bool
+    ensures { result ≡ crosses_all 0 ls.now wants }
 {
     let mut rest = wants;
-    let mut at: usize = 0;
-    let mut l: u8 = 0;
-    while l < n {
-        let end = row_end(at, ls.len());
-        let crossed = cross(&ls[at..end], l, &mut rest);
+    for (l, q) in ls.iter().enumerate() {
+        let crossed = cross(&q.places, l, &mut rest);
         if !crossed {
             return false;
         }
-        at = end;
-        l += 1;
     }
-    zeros_from(&rest, 0, 25)
+    are_zeros(&rest)
 }

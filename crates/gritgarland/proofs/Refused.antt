@@ -7,10 +7,9 @@ use Rattle.model.specs.declared.State.{State}
 use Rattle.model.specs.declared.Answer.{Answer}
 use Rattle.model.specs.Code.{is_negative, is_refusal}
 use Rattle.model.specs.Test.{is_sound}
-use Rattle.border.specs.declared.From.{From}
-use Rattle.border.specs.declared.From.TheVariants.{Known, Nowhere}
-use Rattle.services.specs.declared.calls.Asked.{Asked}
-use Rattle.services.specs.declared.calls.Asked.TheVariants.{Named, Nothing}
+use Rattle.std.specs.Prelude.{Option, Some, None}
+use Rattle.model.specs.declared.Context.{Context}
+use Rattle.model.specs.declared.Call.{Call}
 use Rattle.services.specs.Calls.{asked}
 use Rattle.border.specs.Border.{context_of, unknown, answered, reply}
 use Rattle.soundness.proofs.Soundness.{refused_call_is_unchanged}
@@ -24,11 +23,11 @@ unknown_is_unchanged : (s : State) → (unknown s).state ≡ s
 unfolding unknown
 unknown_is_unchanged s = picked s (is_sound s) _ _ refl refl
 
-refused_answer_is_unchanged : (s : State) (f : From) (q : Asked) → is_refusal (answered s f q).code ≡ true → (answered s f q).state ≡ s
+refused_answer_is_unchanged : (s : State) (f : Option Context) (q : Option Call) → is_refusal (answered s f q).code ≡ true → (answered s f q).state ≡ s
 unfolding answered
-refused_answer_is_unchanged s Nowhere q e = unknown_is_unchanged s
-refused_answer_is_unchanged s (Known c) Nothing e = unknown_is_unchanged s
-refused_answer_is_unchanged s (Known c) (Named a) e = refused_call_is_unchanged s c a e
+refused_answer_is_unchanged s None q e = unknown_is_unchanged s
+refused_answer_is_unchanged s (Some c) None e = unknown_is_unchanged s
+refused_answer_is_unchanged s (Some c) (Some a) e = refused_call_is_unchanged s c a e
 
 pub refused_reply_is_unchanged : (s : State) (context service a b c d : ℕ) → is_negative (reply s context service a b c d).code ≡ true → (reply s context service a b c d).state ≡ s
 unfolding reply

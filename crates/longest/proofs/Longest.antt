@@ -3,6 +3,7 @@
 use mathlib.Core.Path.{◌≡◌, refl}
 use mathlib.Core.Bool.{Bool, true, false, cond}
 use mathlib.Core.List.{List, [], ◌∷◌}
+use Rattle.std.specs.Prelude.{Option, Some, None, Result, Ok, Err}
 use Prim.Native.Nat.{ℕ, zero, suc, ◌+◌, ◌-◌, ◌*◌, ◌≤◌, ◌<◌}
 use native.Mathlib.Omega.{arith}
 use native.Mathlib.Decide.{dec_lt}
@@ -18,14 +19,12 @@ use Rattle.model.specs.declared.Call.{Call}
 use Rattle.model.specs.State.{fresh}
 use Rattle.model.specs.Call as Calls
 use Rattle.lines.specs.declared.line.Line.{Line}
-use Rattle.lines.specs.declared.line.Line.TheVariants.{Reads, Unreadable as NoLine}
 use Rattle.lines.specs.declared.line.Header.{Header}
-use Rattle.lines.specs.declared.line.Header.TheVariants.{Ends, NoHeader}
 use Rattle.lines.specs.Lines.{line_of, header_of}
 use Rattle.lines.proofs.Within.{LineIn, line_in}
 use Rattle.lines.proofs.Long.{extra, LineHas, line_has, header_has}
-use Rattle.runner.specs.declared.Ran.{Ran}
-use Rattle.runner.specs.declared.Ran.TheVariants.{Wrote, TooLong, Unreadable, Short}
+use Rattle.runner.specs.declared.Refusal.{Refusal}
+use Rattle.runner.specs.declared.Refusal.TheVariants.{TooLong, Unreadable, Short}
 use Rattle.walk.specs.Script.{next, line_then, script_in, header_then, script_of, fault_of}
 use Rattle.walk.specs.Rows.{rows_by, rows_of, rows_text, text_of}
 use Rattle.runner.specs.Outcome.{judged, ran_of}
@@ -56,15 +55,17 @@ in_few by wide (b ∷ s) (suc k) l from = omega (arith, in_few by wide s k l fro
 in_few by wide (b ∷ s) zero l from =
     omega (arith, go (line_of wide (b ∷ s)) (line_has wide (b ∷ s)) (line_in wide (b ∷ s)) (line_ends wide (b ∷ s)) (λ n to. in_few by wide s n (l + 1) to))
   where
-    go : (t : Line) → LineHas wide t → LineIn t (length (b ∷ s)) → LineEnds wide t (length (b ∷ s))
+    go : (t : Option Line) → LineHas wide t → LineIn t (length (b ∷ s)) → LineEnds wide t (length (b ∷ s))
         → ((n : ℕ) (to : State) → size wide * length (rows_by by to (script_in wide n s (l + 1))) ≤ length s - n + 1)
         → size wide * length (rows_by by from (line_then t l (λ x c n. next x c (script_in wide (n - 1) s (l + 1))))) ≤ suc (length s) + 1
-    go (Reads x c n) has inside ends ih =
-        one_more wide (length (rows_by by (by from x c).state (script_in wide (n - 1) s (l + 1)))) n (suc (length s)) (dec_lt n (suc (length s))) has inside.1 ends (omega (arith, ih (n - 1) (by from x c).state))
-    go NoLine has inside ends ih = omega arith
+    go (Some x) has inside ends ih =
+        let n = x.next in
+        let to = (by from x.context x.call).state in
+        one_more wide (length (rows_by by to (script_in wide (n - 1) s (l + 1)))) n (suc (length s)) (dec_lt n (suc (length s))) has inside.1 ends (omega (arith, ih (n - 1) to))
+    go None has inside ends ih = omega arith
 
 -- the bytes that are left for them after the header
-after_header : (file : List ℕ) → length file ≤ 65536 → (wide : Bool) (h : ℕ) → header_of file ≡ Ends wide h → size wide * length (rows_of (script_in wide h file 2)) ≤ 65519 - 2 * extra wide
+after_header : (file : List ℕ) → length file ≤ 65536 → (wide : Bool) (h : ℕ) → header_of file ≡ Some (record { wide = wide; next = h }) → size wide * length (rows_of (script_in wide h file 2)) ≤ 65519 - 2 * extra wide
 after_header file fits wide h e = more (dec_lt h (length file))
   where
     has : 17 + 2 * extra wide ≤ h
@@ -85,10 +86,10 @@ pub few_calls : FewCalls
 unfolding script_of rows_by
 few_calls file fits = go (header_of file) refl
   where
-    go : (t : Header) → header_of file ≡ t → length (rows_of (header_then t (λ wide h. script_in wide h file 2))) ≤ 3639
-    go (Ends true h) e = omega (arith, after_header file fits true h e)
-    go (Ends false h) e = omega (arith, after_header file fits false h e)
-    go NoHeader e = omega arith
+    go : (t : Option Header) → header_of file ≡ t → length (rows_of (header_then t (λ wide h. script_in wide h file 2))) ≤ 3639
+    go (Some (record { wide = true; next = h })) e = omega (arith, after_header file fits true h e)
+    go (Some (record { wide = false; next = h })) e = omega (arith, after_header file fits false h e)
+    go None e = omega arith
 
 -- ---- a short answer
 pub short_answer : ShortAnswer
@@ -99,8 +100,8 @@ short_answer file fits =
     omega (arith, length-append (bytes "n,code,running\r\n") (rows_text 1 rows), all_most (script_of file), digits_all, digits_grow (length rows) 3639 1 few)
 
 -- ---- never short
-abbrev Enough : Ran → Type 0
-Enough r = r ≡ Short → ⊥
+abbrev Enough : Result ℕ Refusal → Type 0
+Enough r = r ≡ Err Short → ⊥
 
 pub room_enough : RoomEnough
 unfolding ran_of judged
@@ -109,14 +110,14 @@ room_enough file room h = go (ltb 65536 (length file)) refl
     text : ℕ
     text = length (text_of (script_of file))
 
-    written : length file ≤ 65536 → (b : Bool) → ltb room text ≡ b → Enough (cond b Short (Wrote text))
+    written : length file ≤ 65536 → (b : Bool) → ltb room text ≡ b → Enough (cond b (Err Short) (Ok text))
     written fits true e q = omega (arith, ltb-true room text e, short_answer file fits)
     written fits false e q = let z : ◌≡◌ {A = ℕ} 0 1 = cc in omega arith
 
-    go : (b : Bool) → ltb 65536 (length file) ≡ b → Enough (cond b TooLong (judged (script_of file) room))
+    go : (b : Bool) → ltb 65536 (length file) ≡ b → Enough (cond b (Err TooLong) (judged (script_of file) room))
     go true e = λ q. let z : ◌≡◌ {A = ℕ} 0 1 = cc in omega arith
     go false e =
-        cond_by Enough (eqb (fault_of (script_of file)) 0) (cond (ltb room text) Short (Wrote text)) (Unreadable (fault_of (script_of file)))
+        cond_by Enough (eqb (fault_of (script_of file)) 0) (cond (ltb room text) (Err Short) (Ok text)) (Err (Unreadable (fault_of (script_of file))))
         (λ _. written (ltb-false 65536 (length file) e) (ltb room text) refl)
         (λ q. let z : ◌≡◌ {A = ℕ} 0 1 = cc in omega arith)
 

@@ -4,6 +4,7 @@
 use mathlib.Core.Path.{◌≡◌, refl, ap, ◌∙◌}
 use mathlib.Core.Bool.{Bool, true, false}
 use mathlib.Core.List.{List, [], ◌∷◌, ◌++◌}
+use Rattle.std.specs.Prelude.{Some, Ok}
 use Prim.Native.Nat.{ℕ, zero, suc, ◌+◌, ◌*◌, ◌≤◌}
 use native.Mathlib.Omega.{arith}
 use lib.ListN.{length, length-append}
@@ -24,15 +25,12 @@ use Rattle.model.specs.Effect.{carried}
 use Rattle.model.specs.Call.{plan, planned, step, call}
 use Rattle.model.specs.Sound.{Sound}
 use Rattle.soundness.proofs.Soundness.{fresh_is_sound, sound_stays_sound}
-use Rattle.lines.specs.declared.line.Line.TheVariants.{Reads}
-use Rattle.lines.specs.declared.line.Header.TheVariants.{Ends}
-use Rattle.lines.specs.declared.fields.End.TheVariants.{Closes}
+use Rattle.lines.specs.declared.line.Line.{Line}
 use Rattle.model.specs.Services.{is_mine}
 use Rattle.model.proofs.Words.{table}
 use Rattle.lines.specs.Fields.{end_of}
 use Rattle.lines.specs.Lines.{line_of, headed, header_of}
 use Rattle.lines.proofs.Vectors.{reader}
-use Rattle.runner.specs.declared.Ran.TheVariants.{Wrote}
 use Rattle.walk.specs.Script.{Script, done, next, script_in, script_of, fault_of}
 use Rattle.walk.specs.Rows.{Row, rows_by, rows_of, signed, rows_text, text_of}
 use Rattle.runner.specs.Outcome.{judged, ran_of}
@@ -41,7 +39,7 @@ use Rattle.longest.specs.Statement.{refusal, refusals, longest, Reached, longest
 use Rattle.longest.proofs.Rows.{digits_from, digits_all, row_text_lem, next_rows}
 
 -- ---- the script
-feed : (rest : List ℕ) → end_of (10 ∷ rest) ≡ Closes 1
+feed : (rest : List ℕ) → end_of (10 ∷ rest) ≡ Some 1
 unfolding end_of begins
 feed rest = rw (ne_eqb (suc (length rest)) 0 (λ e. omega arith))
 
@@ -49,21 +47,25 @@ abbrev size : Bool → ℕ
 size false = 17
 size true = 18
 
-exit_line : (wide : Bool) (rest : List ℕ) → line_of wide (refusal wide ++ (10 ∷ rest)) ≡ Reads I TaskExit (suc (size wide))
+-- a line of n bytes that is such a call
+abbrev exits_in : ℕ → Line
+exits_in n = record { context = I; call = TaskExit; next = n }
+
+exit_line : (wide : Bool) (rest : List ℕ) → line_of wide (refusal wide ++ (10 ∷ rest)) ≡ Some (exits_in (suc (size wide)))
 unfolding reader
 exit_line false rest = simp (feed rest)
 exit_line true rest = simp (feed rest)
 
-last_line : (wide : Bool) → line_of wide (refusal wide) ≡ Reads I TaskExit (size wide)
+last_line : (wide : Bool) → line_of wide (refusal wide) ≡ Some (exits_in (size wide))
 unfolding reader end_of
 last_line false = refl
 last_line true = refl
 
-create_line : (rest : List ℕ) → line_of false (bytes "T,tn_task_create,10,1,1\n" ++ rest) ≡ Reads T (TaskCreate 10 1 1) 24
+create_line : (rest : List ℕ) → line_of false (bytes "T,tn_task_create,10,1,1\n" ++ rest) ≡ Some (record { context = T; call = TaskCreate 10 1 1; next = 24 })
 unfolding reader
 create_line rest = simp (feed rest)
 
-header_line : (rest : List ℕ) → header_of (bytes "ctx,service,a,b,c\n" ++ rest) ≡ Ends false 18
+header_line : (rest : List ℕ) → header_of (bytes "ctx,service,a,b,c\n" ++ rest) ≡ Some (record { wide = false; next = 18 })
 unfolding header_of headed begins
 header_line rest = simp (feed rest)
 
@@ -73,10 +75,10 @@ exits (suc n) = next I TaskExit (exits n)
 
 script_exits : (wide : Bool) (n l : ℕ) → script_in wide 0 (refusals wide n) l ≡ exits (suc n)
 unfolding refusals exits
-script_exits false zero l = script_next false (refusal false) 0 l I TaskExit 17 (omega arith) (omega arith) (last_line false) ∙ ap (next I TaskExit) (script_end false [] 0 (l + 1) (omega arith))
-script_exits true zero l = script_next true (refusal true) 0 l I TaskExit 18 (omega arith) (omega arith) (last_line true) ∙ ap (next I TaskExit) (script_end true [] 0 (l + 1) (omega arith))
-script_exits false (suc n) l = script_next false (refusal false ++ (10 ∷ refusals false n)) 0 l I TaskExit 18 (omega arith) (omega arith) (exit_line false (refusals false n)) ∙ ap (next I TaskExit) (script_exits false n (l + 1))
-script_exits true (suc n) l = script_next true (refusal true ++ (10 ∷ refusals true n)) 0 l I TaskExit 19 (omega arith) (omega arith) (exit_line true (refusals true n)) ∙ ap (next I TaskExit) (script_exits true n (l + 1))
+script_exits false zero l = script_next false (refusal false) 0 l (exits_in 17) (omega arith) (omega arith) (last_line false) ∙ ap (next I TaskExit) (script_end false [] 0 (l + 1) (omega arith))
+script_exits true zero l = script_next true (refusal true) 0 l (exits_in 18) (omega arith) (omega arith) (last_line true) ∙ ap (next I TaskExit) (script_end true [] 0 (l + 1) (omega arith))
+script_exits false (suc n) l = script_next false (refusal false ++ (10 ∷ refusals false n)) 0 l (exits_in 18) (omega arith) (omega arith) (exit_line false (refusals false n)) ∙ ap (next I TaskExit) (script_exits false n (l + 1))
+script_exits true (suc n) l = script_next true (refusal true ++ (10 ∷ refusals true n)) 0 l (exits_in 19) (omega arith) (omega arith) (exit_line true (refusals true n)) ∙ ap (next I TaskExit) (script_exits true n (l + 1))
 
 module _ (rest : List ℕ) where
   abbrev starts : List ℕ
@@ -87,7 +89,7 @@ module _ (rest : List ℕ) where
   starts_script =
       rw (header_line (bytes "T,tn_task_create,10,1,1\n" ++ rest))
       (script_drop false 18 starts 2
-      ∙ script_next false (bytes "T,tn_task_create,10,1,1\n" ++ rest) 0 2 T (TaskCreate 10 1 1) 24 (omega arith) (omega arith) (create_line rest))
+      ∙ script_next false (bytes "T,tn_task_create,10,1,1\n" ++ rest) 0 2 (record { context = T; call = TaskCreate 10 1 1; next = 24 }) (omega arith) (omega arith) (create_line rest))
 
 script : script_of longest ≡ next T (TaskCreate 10 1 1) (exits 3638)
 unfolding longest
@@ -185,7 +187,7 @@ longest_reads = ap fault_of script ∙ exits_read 3638
 longest_text : length (text_of (script_of longest)) ≡ 42576
 longest_text = ap (λ (p : Script). length (text_of p)) script ∙ made_text 3638 ∙ ap (λ (d : ℕ). 23 + d + 8 * 3638) digits_all
 
-wrote : (file : List ℕ) (n room : ℕ) → length file ≤ 65536 → fault_of (script_of file) ≡ 0 → length (text_of (script_of file)) ≡ n → n ≤ room → ran_of file room ≡ Wrote n
+wrote : (file : List ℕ) (n room : ℕ) → length file ≤ 65536 → fault_of (script_of file) ≡ 0 → length (text_of (script_of file)) ≡ n → n ≤ room → ran_of file room ≡ Ok n
 unfolding ran_of judged
 wrote file n room fits reads size enough = rw (le-ltb 65536 (length file) fits, reads, size, le-ltb room n enough)
 
@@ -193,7 +195,7 @@ pub reached : Reached
 reached = (ap (λ (p : Script). length (rows_of p)) script ∙ made_count 3638, wrote longest 42576 42576 longest_fits longest_reads longest_text (omega arith))
 
 -- ---- six fields
-wide_header : (rest : List ℕ) → header_of (bytes "ctx,service,a,b,c,d\n" ++ rest) ≡ Ends true 20
+wide_header : (rest : List ℕ) → header_of (bytes "ctx,service,a,b,c,d\n" ++ rest) ≡ Some (record { wide = true; next = 20 })
 unfolding header_of headed begins end_of
 wide_header rest = simp (feed rest)
 

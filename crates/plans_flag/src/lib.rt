@@ -3,14 +3,13 @@
 #![tactic(auto)]
 
 ghost use Rattle.std.specs.Prelude.{◌≡◌};
-ghost use Rattle.model.specs.Flag.{is_single, with_bits, without_bits, bits_left};
+ghost use Rattle.checks.specs.Gate.{plan_of, IsDecision};
+ghost use Rattle.model.specs.Flag.{bits_left};
 ghost use Rattle.model.specs.Service.{flag_create, flag_delete, meets_first, flag_set, flag_clear, is_occupied, taken, flag_wait};
 ghost use Rattle.model.specs.Call.{flag_subject, flag_plan};
 
 use crate::poll::flag_poll;
-use checks::{
-    Gate, checked, does, flags, gives, is_attributes, is_flag, is_timeout, pending, refused,
-};
+use checks::{checked, does, flags, gives, is_attributes, is_flag, is_timeout, pending};
 use model::{Code, Effect, Flag, FlagService, News, Plan, Task};
 use records::waits::on_flag;
 use records::{is_met, waiting};
@@ -19,121 +18,103 @@ mod poll;
 
 // ---- a flag's bits
 // CLR zeroes the bits when a wait or poll is met.
+#[tactic(auto, unfolding(model::specs::Flag::bits_left))]
 fn bits_left(attributes: u32, met: bool, bits: u32) -> u32
     ensures { result ≡ bits_left attributes met bits }
 {
-    if attributes == 4 {
-        if met {
-            return 0;
-        }
+    if attributes == 4 && met {
+        return 0;
     }
     bits
 }
 
 // A SINGLE flag has its one waiter.
+#[tactic(auto, unfolding(model::specs::Service::is_occupied))]
 fn is_occupied(y: Flag) -> bool
     ensures { result ≡ is_occupied y }
 {
-    let attributes = y.attributes;
-    let first = y.first;
-    ((attributes == 2) | (attributes == 4)) & (first != 0)
+    matches!(y.attributes, 2 | 4) && y.first != 0
 }
 
 // The bits meet what the first waiter, whose record is k, asks for.
+#[tactic(auto, unfolding(model::specs::Service::meets_first))]
 fn meets_first(bits: u32, k: Task, y: Flag) -> bool
     ensures { result ≡ meets_first bits k y }
 {
-    let first = y.first;
-    let pattern = k.wait.pattern;
-    let mode = k.wait.mode;
-    if first == 0 {
-        return false;
-    }
-    is_met(pattern, mode as u32, bits)
+    y.first != 0 && is_met(k.wait.pattern, k.wait.mode as u32, bits)
 }
 
 // A wait or poll is met at once: the bits are in its answer.
+#[tactic(auto, unfolding(model::specs::Service::taken))]
 fn taken(flag: u8, y: Flag) -> Plan
     ensures { result ≡ taken flag y }
 {
-    let attributes = y.attributes;
-    let bits = y.bits;
-    let left = bits_left(attributes, true, bits);
     gives(
-        bits,
+        y.bits,
         Effect::Flags {
-            flag: flag,
-            attributes: attributes,
-            bits: left,
+            flag,
+            attributes: y.attributes,
+            bits: bits_left(y.attributes, true, y.bits),
         },
     )
 }
 
 // ---- the services
-fn flag_create(mine: bool, flag: u32, attributes: u32, bits: u32, y: Flag) -> Plan
-    ensures { result ≡ flag_create mine flag attributes bits y }
+#[tactic(auto, unfolding(checks::specs::Gate::gate, model::specs::Plan::within, model::specs::Service::flag_create))]
+fn flag_create(mine: bool, flag: u32, attributes: u32, bits: u32, y: Flag) -> Result<Plan, Code>
+    ensures plan { plan_of result ≡ flag_create mine flag attributes bits y }
+    ensures decision { IsDecision result }
 {
-    let gate = checked(
+    checked(
         is_flag(flag) & (is_attributes(attributes) & (y.attributes == 0)),
         true,
         mine,
-    );
-    if let Gate::Refuses { code } = gate {
-        return refused(code);
-    }
-    let f = flag as u8;
-    let kept = attributes + 1;
-    flags(f, kept, bits)
+    )?;
+    Ok(flags(flag as u8, attributes + 1, bits))
 }
 
-fn flag_delete(mine: bool, flag: u32, y: Flag) -> Plan
-    ensures { result ≡ flag_delete mine flag y }
+#[tactic(auto, unfolding(checks::specs::Gate::gate, model::specs::Plan::within, model::specs::Service::flag_delete))]
+fn flag_delete(mine: bool, flag: u32, y: Flag) -> Result<Plan, Code>
+    ensures plan { plan_of result ≡ flag_delete mine flag y }
+    ensures decision { IsDecision result }
 {
-    let gate = checked(is_flag(flag), y.attributes != 0, mine);
-    if let Gate::Refuses { code } = gate {
-        return refused(code);
-    }
-    let f = flag as u8;
-    does(Effect::Tells {
-        flag: f,
+    checked(is_flag(flag), y.attributes != 0, mine)?;
+    Ok(does(Effect::Tells {
+        flag: flag as u8,
         news: News::Deleted,
         attributes: 0,
         bits: 0,
-    })
+    }))
 }
 
 // k is the record of the first waiter.
-fn flag_set(mine: bool, flag: u32, bits: u32, k: Task, y: Flag) -> Plan
-    ensures { result ≡ flag_set mine flag bits k y }
+#[tactic(auto, unfolding(checks::specs::Gate::gate, model::specs::Plan::within, model::specs::Service::flag_set, model::specs::Flag::with_bits))]
+fn flag_set(mine: bool, flag: u32, bits: u32, k: Task, y: Flag) -> Result<Plan, Code>
+    ensures plan { plan_of result ≡ flag_set mine flag bits k y }
+    ensures decision { IsDecision result }
 {
-    let gate = checked(is_flag(flag) & (bits != 0), y.attributes != 0, mine);
-    if let Gate::Refuses { code } = gate {
-        return refused(code);
-    }
-    let f = flag as u8;
+    checked(is_flag(flag) & (bits != 0), y.attributes != 0, mine)?;
     let all = y.bits | bits;
-    let met = meets_first(all, k, y);
-    let left = bits_left(y.attributes, met, all);
-    does(Effect::Tells {
-        flag: f,
+    let left = bits_left(y.attributes, meets_first(all, k, y), all);
+    Ok(does(Effect::Tells {
+        flag: flag as u8,
         news: News::Bits { bits: all },
         attributes: y.attributes,
         bits: left,
-    })
+    }))
 }
 
-fn flag_clear(mine: bool, flag: u32, bits: u32, y: Flag) -> Plan
-    ensures { result ≡ flag_clear mine flag bits y }
+#[tactic(auto, unfolding(checks::specs::Gate::gate, model::specs::Plan::within, model::specs::Service::flag_clear, model::specs::Flag::without_bits))]
+fn flag_clear(mine: bool, flag: u32, bits: u32, y: Flag) -> Result<Plan, Code>
+    ensures plan { plan_of result ≡ flag_clear mine flag bits y }
+    ensures decision { IsDecision result }
 {
-    let gate = checked(is_flag(flag) & (bits != 0), y.attributes != 0, mine);
-    if let Gate::Refuses { code } = gate {
-        return refused(code);
-    }
-    let f = flag as u8;
-    let left = y.bits & (4294967295 - bits);
-    flags(f, y.attributes, left)
+    checked(is_flag(flag) & (bits != 0), y.attributes != 0, mine)?;
+    let left = y.bits & !bits;
+    Ok(flags(flag as u8, y.attributes, left))
 }
 
+#[tactic(auto, unfolding(checks::specs::Gate::gate, model::specs::Plan::within, model::specs::Service::flag_wait, model::specs::Service::taken))]
 fn flag_wait(
     mine: bool,
     flag: u32,
@@ -143,31 +124,27 @@ fn flag_wait(
     run: u8,
     k: Task,
     y: Flag,
-) -> Plan
-    ensures { result ≡ flag_wait mine flag pattern mode timeout run k y }
+) -> Result<Plan, Code>
+    ensures plan { plan_of result ≡ flag_wait mine flag pattern mode timeout run k y }
+    ensures decision { IsDecision result }
 {
-    let gate = checked(
+    checked(
         is_flag(flag) & ((pattern != 0) & ((mode <= 1) & is_timeout(timeout))),
         y.attributes != 0,
         mine,
-    );
-    if let Gate::Refuses { code } = gate {
-        return refused(code);
-    }
+    )?;
     if run == 0 {
-        return refused(Code::WContext);
+        return Err(Code::WContext);
     }
-    let occupied = is_occupied(y);
-    if occupied {
-        return refused(Code::IlUse);
+    if is_occupied(y) {
+        return Err(Code::IlUse);
     }
     let f = flag as u8;
-    let met = is_met(pattern, mode, y.bits);
-    if met {
-        return taken(f, y);
+    if is_met(pattern, mode, y.bits) {
+        return Ok(taken(f, y));
     }
-    let m = mode as u8;
-    pending(run, waiting(k, on_flag(f, pattern, m, timeout)))
+    let wait = on_flag(f, pattern, mode as u8, timeout);
+    Ok(pending(run, waiting(k, wait)))
 }
 
 // ---- the dispatch
@@ -176,35 +153,38 @@ pub fn flag_subject(service: FlagService, run: u8, first: u8) -> u8
     ensures { result ≡ flag_subject service run first }
 {
     match service {
-        FlagService::Create { .. } => 0,
-        FlagService::Delete => 0,
-        FlagService::Set { .. } => first,
-        FlagService::Iset { .. } => first,
-        FlagService::Clear { .. } => 0,
-        FlagService::Iclear { .. } => 0,
+        FlagService::Set { .. } | FlagService::Iset { .. } => first,
         FlagService::Wait { .. } => run,
-        FlagService::WaitPolling { .. } => 0,
-        FlagService::Iwait { .. } => 0,
+        _ => 0,
     }
 }
 
 // The plan of a service, from whether the context is its own.
-pub fn flag_plan(mine: bool, flag: u32, service: FlagService, run: u8, k: Task, y: Flag) -> Plan
-    ensures { result ≡ flag_plan mine flag service run k y }
+#[tactic(auto, unfolding(model::specs::Call::flag_plan))]
+pub fn flag_plan(
+    mine: bool,
+    flag: u32,
+    service: FlagService,
+    run: u8,
+    k: Task,
+    y: Flag,
+) -> Result<Plan, Code>
+    ensures plan { plan_of result ≡ flag_plan mine flag service run k y }
+    ensures decision { IsDecision result }
 {
     match service {
         FlagService::Create { attributes, bits } => flag_create(mine, flag, attributes, bits, y),
         FlagService::Delete => flag_delete(mine, flag, y),
-        FlagService::Set { bits } => flag_set(mine, flag, bits, k, y),
-        FlagService::Iset { bits } => flag_set(mine, flag, bits, k, y),
-        FlagService::Clear { bits } => flag_clear(mine, flag, bits, y),
-        FlagService::Iclear { bits } => flag_clear(mine, flag, bits, y),
+        FlagService::Set { bits } | FlagService::Iset { bits } => flag_set(mine, flag, bits, k, y),
+        FlagService::Clear { bits } | FlagService::Iclear { bits } => flag_clear(
+            mine, flag, bits, y,
+        ),
         FlagService::Wait {
             pattern,
             mode,
             timeout,
         } => flag_wait(mine, flag, pattern, mode, timeout, run, k, y),
-        FlagService::WaitPolling { pattern, mode } => flag_poll(mine, flag, pattern, mode, y),
-        FlagService::Iwait { pattern, mode } => flag_poll(mine, flag, pattern, mode, y),
+        FlagService::WaitPolling { pattern, mode } | FlagService::Iwait { pattern, mode } =>
+            flag_poll(mine, flag, pattern, mode, y),
     }
 }

@@ -1,33 +1,35 @@
 // The plan of a poll of an event flag, from a task or an interrupt.
 // It is a definition of model/specs/Service, for every value; it rests on checks and records.
 ghost use Rattle.std.specs.Prelude.{◌≡◌};
+ghost use Rattle.checks.specs.Gate.{plan_of, IsDecision};
 ghost use Rattle.model.specs.Service.{flag_poll};
 
 use crate::{is_occupied, taken};
-use checks::{Gate, checked, is_flag, refused};
+use checks::{checked, is_flag};
 use model::{Code, Flag, Plan};
 use records::is_met;
 
-#[tactic(auto, using(checks::proofs::Laws::refuses, checks::proofs::Laws::passes), unfolding(model::specs::Service::flag_poll))]
-pub(crate) fn flag_poll(mine: bool, flag: u32, pattern: u32, mode: u32, y: Flag) -> Plan
-    ensures { result ≡ flag_poll mine flag pattern mode y }
+#[tactic(auto, unfolding(checks::specs::Gate::gate, model::specs::Plan::within, model::specs::Service::flag_poll, model::specs::Service::taken))]
+pub(crate) fn flag_poll(
+    mine: bool,
+    flag: u32,
+    pattern: u32,
+    mode: u32,
+    y: Flag,
+) -> Result<Plan, Code>
+    ensures plan { plan_of result ≡ flag_poll mine flag pattern mode y }
+    ensures decision { IsDecision result }
 {
-    let gate = checked(
+    checked(
         is_flag(flag) & ((pattern != 0) & (mode <= 1)),
         y.attributes != 0,
         mine,
-    );
-    if let Gate::Refuses { code } = gate {
-        return refused(code);
+    )?;
+    if is_occupied(y) {
+        return Err(Code::IlUse);
     }
-    let occupied = is_occupied(y);
-    let met = is_met(pattern, mode, y.bits);
-    if occupied {
-        return refused(Code::IlUse);
+    if !is_met(pattern, mode, y.bits) {
+        return Err(Code::Timeout);
     }
-    if !met {
-        return refused(Code::Timeout);
-    }
-    let f = flag as u8;
-    taken(f, y)
+    Ok(taken(flag as u8, y))
 }

@@ -2,115 +2,106 @@
 // Each function is a definition of model/specs/Service or Call, for every value; it rests on checks and records.
 #![tactic(auto)]
 
-ghost use Rattle.std.specs.Prelude.{◌≡◌};
+ghost use Rattle.std.specs.Prelude.{◌≡◌, false, IfSome};
+ghost use Rattle.std.specs.Option.{unwrap_or};
+ghost use Rattle.model.specs.Code.{is_refusal};
+ghost use Rattle.checks.specs.Gate.{plan_of, IsDecision};
 ghost use Rattle.model.specs.Service.{queue_create, queue_delete, is_side, has_room, sent, queue_send, queue_send_poll, received, queue_receive, queue_receive_poll};
 ghost use Rattle.model.specs.Call.{queue_plan};
 
-use checks::{Gate, checked, does, gives, is_queue, is_timeout, moves, pending, refused};
+use checks::{checked, does, gives, is_queue, is_timeout, moves, pending};
 use model::{Code, DataQueue, Effect, Plan, QueueService, Task};
 use records::waits::{to_receive, to_send};
 use records::{RECEIVE, SEND, SERVED, ended, waiting};
 
 // ---- a queue
 // The first waiter waits for this: to send or to receive.
+#[tactic(auto, unfolding(model::specs::Service::is_side))]
 fn is_side(kind: u8, z: DataQueue) -> bool
     ensures { result ≡ is_side kind z }
 {
-    let first = z.first;
-    let waits = z.waiter.wait.kind;
-    (first != 0) & (waits == kind)
+    z.first != 0 && z.waiter.wait.kind == kind
 }
 
 // A place is free. The number that a queue keeps is its capacity plus 1, and nothing is added to the elements, whose number may be any here.
 fn has_room(z: DataQueue) -> bool
     ensures { result ≡ has_room z }
 {
-    let capacity = z.capacity;
-    let taken = z.taken;
-    if capacity == 0 {
-        return false;
-    }
-    taken < capacity - 1
+    z.capacity != 0 && z.taken < z.capacity - 1
 }
 
-// The first waiting receiver gets the element, or it is stored last; else the queue is full.
-fn sent(queue: u8, element: u32, z: DataQueue, full: Plan) -> Plan
-    ensures { result ≡ sent queue element z full }
+// The first waiting receiver gets the element, or it is stored last; None where the queue is full.
+#[tactic(auto, unfolding(model::specs::Service::sent))]
+fn sent(queue: u8, element: u32, z: DataQueue) -> Option<Plan>
+    ensures plan { (full : Plan) → unwrap_or result full ≡ sent queue element z full }
+    ensures code { IfSome result (λ p. is_refusal p.code ≡ false) }
 {
-    let receives = is_side(RECEIVE, z);
-    if receives {
-        return moves(z.first, ended(z.waiter, SERVED, element));
+    if is_side(RECEIVE, z) {
+        return Some(moves(z.first, ended(z.waiter, SERVED, element)));
     }
-    let room = has_room(z);
-    if room {
-        let taken = z.taken + 1;
-        return does(Effect::Stores {
-            queue: queue,
-            taken: taken,
-            element: element,
-        });
+    if has_room(z) {
+        return Some(does(Effect::Stores {
+            queue,
+            taken: z.taken + 1,
+            element,
+        }));
     }
-    full
+    None
 }
 
 // The oldest element is taken, and the first waiting sender's goes in last; where none is stored, the first waiting sender hands its own over;
-// else the queue is empty.
-fn received(queue: u8, z: DataQueue, empty: Plan) -> Plan
-    ensures { result ≡ received queue z empty }
+// None where the queue is empty and nobody sends.
+#[tactic(auto, unfolding(model::specs::Service::received))]
+fn received(queue: u8, z: DataQueue) -> Option<Plan>
+    ensures plan { (empty : Plan) → unwrap_or result empty ≡ received queue z empty }
+    ensures code { IfSome result (λ p. is_refusal p.code ≡ false) }
 {
-    let taken = z.taken;
     let sends = is_side(SEND, z);
-    if taken == 0 {
+    if z.taken != 0 {
         if sends {
-            let element = z.waiter.wait.pattern;
-            let served = ended(z.waiter, SERVED, 0);
-            return gives(
-                element,
-                Effect::Moves {
-                    task: z.first,
-                    record: served,
-                },
-            );
+            return Some(gives(z.oldest, Effect::Refills { queue }));
         }
-        return empty;
+        return Some(gives(z.oldest, Effect::Takes { queue }));
     }
-    if sends {
-        return gives(z.oldest, Effect::Refills { queue: queue });
+    if !sends {
+        return None;
     }
-    gives(z.oldest, Effect::Takes { queue: queue })
+    Some(gives(
+        z.waiter.wait.pattern,
+        Effect::Moves {
+            task: z.first,
+            record: ended(z.waiter, SERVED, 0),
+        },
+    ))
 }
 
 // ---- the services
-fn queue_create(mine: bool, queue: u32, capacity: u32, z: DataQueue) -> Plan
-    ensures { result ≡ queue_create mine queue capacity z }
+#[tactic(auto, unfolding(checks::specs::Gate::gate, model::specs::Plan::within, model::specs::Service::queue_create))]
+fn queue_create(mine: bool, queue: u32, capacity: u32, z: DataQueue) -> Result<Plan, Code>
+    ensures plan { plan_of result ≡ queue_create mine queue capacity z }
+    ensures decision { IsDecision result }
 {
-    let gate = checked(
+    checked(
         is_queue(queue) & ((capacity <= 16) & (z.capacity == 0)),
         true,
         mine,
-    );
-    if let Gate::Refuses { code } = gate {
-        return refused(code);
-    }
-    let q = queue as u8;
-    let kept = capacity + 1;
-    does(Effect::Queues {
-        queue: q,
-        capacity: kept,
-    })
+    )?;
+    Ok(does(Effect::Queues {
+        queue: queue as u8,
+        capacity: capacity + 1,
+    }))
 }
 
-fn queue_delete(mine: bool, queue: u32, z: DataQueue) -> Plan
-    ensures { result ≡ queue_delete mine queue z }
+#[tactic(auto, unfolding(checks::specs::Gate::gate, model::specs::Plan::within, model::specs::Service::queue_delete))]
+fn queue_delete(mine: bool, queue: u32, z: DataQueue) -> Result<Plan, Code>
+    ensures plan { plan_of result ≡ queue_delete mine queue z }
+    ensures decision { IsDecision result }
 {
-    let gate = checked(is_queue(queue), z.capacity != 0, mine);
-    if let Gate::Refuses { code } = gate {
-        return refused(code);
-    }
-    let q = queue as u8;
-    does(Effect::Removes { queue: q })
+    checked(is_queue(queue), z.capacity != 0, mine)?;
+    Ok(does(Effect::Removes { queue: queue as u8 }))
 }
 
+#[tactic(auto, unfolding(checks::specs::Gate::gate, model::specs::Plan::within, model::specs::Service::queue_send))]
 fn queue_send(
     mine: bool,
     queue: u32,
@@ -119,63 +110,61 @@ fn queue_send(
     run: u8,
     k: Task,
     z: DataQueue,
-) -> Plan
-    ensures { result ≡ queue_send mine queue element timeout run k z }
+) -> Result<Plan, Code>
+    ensures plan { plan_of result ≡ queue_send mine queue element timeout run k z }
+    ensures decision { IsDecision result }
 {
-    let gate = checked(is_queue(queue) & is_timeout(timeout), z.capacity != 0, mine);
-    if let Gate::Refuses { code } = gate {
-        return refused(code);
-    }
+    checked(is_queue(queue) & is_timeout(timeout), z.capacity != 0, mine)?;
     if run == 0 {
-        return refused(Code::WContext);
+        return Err(Code::WContext);
     }
     let q = queue as u8;
-    sent(
-        q,
-        element,
-        z,
-        pending(run, waiting(k, to_send(q, element, timeout))),
-    )
+    let otherwise = pending(run, waiting(k, to_send(q, element, timeout)));
+    Ok(sent(q, element, z).unwrap_or(otherwise))
 }
 
-fn queue_send_poll(mine: bool, queue: u32, element: u32, z: DataQueue) -> Plan
-    ensures { result ≡ queue_send_poll mine queue element z }
+#[tactic(auto, unfolding(checks::specs::Gate::gate, model::specs::Plan::within, model::specs::Service::queue_send_poll))]
+fn queue_send_poll(mine: bool, queue: u32, element: u32, z: DataQueue) -> Result<Plan, Code>
+    ensures plan { plan_of result ≡ queue_send_poll mine queue element z }
+    ensures decision { IsDecision result }
 {
-    let gate = checked(is_queue(queue), z.capacity != 0, mine);
-    if let Gate::Refuses { code } = gate {
-        return refused(code);
-    }
-    let q = queue as u8;
-    sent(q, element, z, refused(Code::Timeout))
+    checked(is_queue(queue), z.capacity != 0, mine)?;
+    sent(queue as u8, element, z).ok_or(Code::Timeout)
 }
 
-fn queue_receive(mine: bool, queue: u32, timeout: u32, run: u8, k: Task, z: DataQueue) -> Plan
-    ensures { result ≡ queue_receive mine queue timeout run k z }
+#[tactic(auto, unfolding(checks::specs::Gate::gate, model::specs::Plan::within, model::specs::Service::queue_receive))]
+fn queue_receive(
+    mine: bool,
+    queue: u32,
+    timeout: u32,
+    run: u8,
+    k: Task,
+    z: DataQueue,
+) -> Result<Plan, Code>
+    ensures plan { plan_of result ≡ queue_receive mine queue timeout run k z }
+    ensures decision { IsDecision result }
 {
-    let gate = checked(is_queue(queue) & is_timeout(timeout), z.capacity != 0, mine);
-    if let Gate::Refuses { code } = gate {
-        return refused(code);
-    }
+    checked(is_queue(queue) & is_timeout(timeout), z.capacity != 0, mine)?;
     if run == 0 {
-        return refused(Code::WContext);
+        return Err(Code::WContext);
     }
     let q = queue as u8;
-    received(q, z, pending(run, waiting(k, to_receive(q, timeout))))
+    let otherwise = pending(run, waiting(k, to_receive(q, timeout)));
+    Ok(received(q, z).unwrap_or(otherwise))
 }
 
-fn queue_receive_poll(mine: bool, queue: u32, z: DataQueue) -> Plan
-    ensures { result ≡ queue_receive_poll mine queue z }
+#[tactic(auto, unfolding(checks::specs::Gate::gate, model::specs::Plan::within, model::specs::Service::queue_receive_poll))]
+fn queue_receive_poll(mine: bool, queue: u32, z: DataQueue) -> Result<Plan, Code>
+    ensures plan { plan_of result ≡ queue_receive_poll mine queue z }
+    ensures decision { IsDecision result }
 {
-    let gate = checked(is_queue(queue), z.capacity != 0, mine);
-    if let Gate::Refuses { code } = gate {
-        return refused(code);
-    }
-    let q = queue as u8;
-    received(q, z, refused(Code::Timeout))
+    checked(is_queue(queue), z.capacity != 0, mine)?;
+    received(queue as u8, z).ok_or(Code::Timeout)
 }
 
 // ---- the dispatch
 // The plan of a service, from whether the context is its own; k is the record of the task that runs.
+#[tactic(auto, unfolding(model::specs::Call::queue_plan))]
 pub fn queue_plan(
     mine: bool,
     queue: u32,
@@ -183,8 +172,9 @@ pub fn queue_plan(
     run: u8,
     k: Task,
     z: DataQueue,
-) -> Plan
-    ensures { result ≡ queue_plan mine queue service run k z }
+) -> Result<Plan, Code>
+    ensures plan { plan_of result ≡ queue_plan mine queue service run k z }
+    ensures decision { IsDecision result }
 {
     match service {
         QueueService::Create { capacity } => queue_create(mine, queue, capacity, z),
@@ -192,10 +182,9 @@ pub fn queue_plan(
         QueueService::Send { element, timeout } => queue_send(
             mine, queue, element, timeout, run, k, z,
         ),
-        QueueService::SendPolling { element } => queue_send_poll(mine, queue, element, z),
-        QueueService::IsendPolling { element } => queue_send_poll(mine, queue, element, z),
+        QueueService::SendPolling { element } | QueueService::IsendPolling { element } =>
+            queue_send_poll(mine, queue, element, z),
         QueueService::Receive { timeout } => queue_receive(mine, queue, timeout, run, k, z),
-        QueueService::ReceivePolling => queue_receive_poll(mine, queue, z),
-        QueueService::Ireceive => queue_receive_poll(mine, queue, z),
+        QueueService::ReceivePolling | QueueService::Ireceive => queue_receive_poll(mine, queue, z),
     }
 }

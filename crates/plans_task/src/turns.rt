@@ -1,13 +1,15 @@
 // The plans of the services that change a priority and a level's slice, and of the tick.
 // Each function is a definition of model/specs/Service, for every value; it rests on checks and records.
 ghost use Rattle.std.specs.Prelude.{◌≡◌};
+ghost use Rattle.checks.specs.Gate.{plan_of, IsDecision};
 ghost use Rattle.model.specs.Service.{wanted, change_priority, tslice_ticks, tick};
 
-use checks::{Gate, checked, does, is_priority, is_slice, is_task, moves, refused};
+use checks::{checked, does, is_priority, is_slice, is_task, moves};
 use model::{Code, Effect, Plan, Task};
 use records::with_priority;
 
 // 0 means the priority at creation.
+#[tactic(auto, unfolding(model::specs::Service::wanted))]
 fn wanted(priority: u8, k: Task) -> u8
     ensures { result ≡ wanted priority k }
 {
@@ -17,42 +19,39 @@ fn wanted(priority: u8, k: Task) -> u8
     priority
 }
 
-pub fn change_priority(mine: bool, task: u32, priority: u32, k: Task) -> Plan
-    ensures { result ≡ change_priority mine task priority k }
+#[tactic(auto, unfolding(checks::specs::Gate::gate, model::specs::Plan::within, model::specs::Service::change_priority))]
+pub fn change_priority(mine: bool, task: u32, priority: u32, k: Task) -> Result<Plan, Code>
+    ensures plan { plan_of result ≡ change_priority mine task priority k }
+    ensures decision { IsDecision result }
 {
-    let gate = checked(is_task(task) & (priority <= 30), k.base != 0, mine);
-    if let Gate::Refuses { code } = gate {
-        return refused(code);
-    }
+    checked(is_task(task) & (priority <= 30), k.base != 0, mine)?;
     if k.active == 0 {
-        return refused(Code::WContext);
+        return Err(Code::WContext);
     }
     let t = task as u8;
     let p = priority as u8;
     let next = wanted(p, k);
     if next == k.priority {
-        return does(Effect::Nothing);
+        return Ok(does(Effect::Nothing));
     }
-    moves(t, with_priority(k, next))
+    Ok(moves(t, with_priority(k, next)))
 }
 
-pub fn tslice_ticks(mine: bool, level: u32, slice: u32) -> Plan
-    ensures { result ≡ tslice_ticks mine level slice }
+#[tactic(auto, unfolding(checks::specs::Gate::gate, model::specs::Plan::within, model::specs::Service::tslice_ticks))]
+pub fn tslice_ticks(mine: bool, level: u32, slice: u32) -> Result<Plan, Code>
+    ensures plan { plan_of result ≡ tslice_ticks mine level slice }
+    ensures decision { IsDecision result }
 {
-    let gate = checked(is_priority(level) & is_slice(slice), true, mine);
-    if let Gate::Refuses { code } = gate {
-        return refused(code);
-    }
+    checked(is_priority(level) & is_slice(slice), true, mine)?;
     let l = level as u8;
-    does(Effect::Slices { level: l, slice })
+    Ok(does(Effect::Slices { level: l, slice }))
 }
 
-pub fn tick(mine: bool) -> Plan
-    ensures { result ≡ tick mine }
+#[tactic(auto, unfolding(checks::specs::Gate::gate, model::specs::Service::tick))]
+pub fn tick(mine: bool) -> Result<Plan, Code>
+    ensures plan { plan_of result ≡ tick mine }
+    ensures decision { IsDecision result }
 {
-    let gate = checked(true, true, mine);
-    if let Gate::Refuses { code } = gate {
-        return refused(code);
-    }
-    does(Effect::Ticks)
+    checked(true, true, mine)?;
+    Ok(does(Effect::Ticks))
 }

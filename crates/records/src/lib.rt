@@ -1,8 +1,8 @@
 // One task's record: which queues list it, the records that calls make of it, and how its last wait ended.
-// Each function is a definition of model/specs/Task, for every value; it rests on model and, for a sign, on a law of laws.
+// Each function is a definition of model/specs/Task, for every value; it rests on model alone.
 #![tactic(auto)]
 
-ghost use Rattle.std.specs.Prelude.{◌≡◌, cond, not, ◌&&◌, eqb};
+ghost use Rattle.std.specs.Prelude.{◌≡◌, cond, not, ◌&&◌, eqb, leb, ◌+◌, ◌≤◌};
 ghost use Rattle.model.specs.Code.{wait_number};
 ghost use Rattle.model.specs.Flag.{is_met, flag_row};
 ghost use Rattle.model.specs.DataQueue.{queue_row};
@@ -13,6 +13,7 @@ use model::{News, Task, Wait};
 
 pub mod waits;
 
+// ---- numbers, and no enums: a record's fields are those of the C struct, of which any bytes are a value
 // the timeout that never ends
 pub const ENDLESS: u32 = 4294967295;
 
@@ -58,86 +59,80 @@ pub fn level_of(x: Task) -> u8
     x.priority
 }
 
+// The row that lists the waiters on the n-th of 8 objects, after so many other rows; a number that names no object has none.
+fn row_after(rows: u8, n: u8) -> u8
+    requires { rows ≤ 20 }
+    ensures { result ≡ cond (leb 1 n && leb n 8) (n + rows) 0 }
+{
+    if n < 1 || 8 < n {
+        return 0;
+    }
+    n + rows
+}
+
 // The row of a flag's waiters stands after those of the 12 semaphores.
+#[tactic(auto, unfolding(model::specs::Flag::flag_row))]
 pub fn flag_row(f: u8) -> u8
     ensures { result ≡ flag_row f }
 {
-    if f < 1 {
-        return 0;
-    }
-    if 8 < f {
-        return 0;
-    }
-    f + 12
+    row_after(12, f)
 }
 
 // That of a data queue's waiters, senders or receivers, after those of the 8 flags.
+#[tactic(auto, unfolding(model::specs::DataQueue::queue_row))]
 pub fn queue_row(q: u8) -> u8
     ensures { result ≡ queue_row q }
 {
-    if q < 1 {
-        return 0;
-    }
-    if 8 < q {
-        return 0;
-    }
-    q + 20
+    row_after(20, q)
 }
 
+#[tactic(auto, unfolding(model::specs::Task::row_of))]
 pub fn row_of(x: Task) -> u8
     ensures { result ≡ row_of x }
 {
-    let kind = x.wait.kind;
-    let object = x.wait.object;
-    // most records wait for nothing, or sleep
-    if kind < SEMAPHORE {
-        return 0;
+    match x.wait.kind {
+        SEMAPHORE => x.wait.object,
+        FLAG => flag_row(x.wait.object),
+        SEND | RECEIVE => queue_row(x.wait.object),
+        _ => 0,
     }
-    if kind == SEMAPHORE {
-        return object;
-    }
-    if kind == FLAG {
-        return flag_row(object);
-    }
-    if (kind == SEND) | (kind == RECEIVE) {
-        return queue_row(object);
-    }
-    0
 }
 
 // ---- records
-pub fn dormant(p: u8) -> Task
-    ensures { result ≡ dormant p }
+pub fn no_task() -> Task
+    ensures { result ≡ no_task }
 {
-    let none = no_wait();
+    let wait = no_wait();
     Task {
-        base: p,
-        priority: p,
+        base: 0,
+        priority: 0,
         active: 0,
         suspended: 0,
         wakeups: 0,
         activations: 0,
-        code: SERVED,
+        code: 0,
         spare: 0,
-        wait: none,
+        wait,
         handed: 0,
         charge: 0,
         entered: 0,
     }
 }
 
-pub fn no_task() -> Task
-    ensures { result ≡ no_task }
+pub fn dormant(p: u8) -> Task
+    ensures { result ≡ dormant p }
 {
-    dormant(0)
+    Task {
+        base: p,
+        priority: p,
+        ..no_task()
+    }
 }
 
 pub fn activated(x: Task) -> Task
     ensures { result ≡ activated x }
 {
-    let mut r = x;
-    r.active = 1;
-    r
+    Task { active: 1, ..x }
 }
 
 pub fn created(p: u8, option: u8) -> Task
@@ -152,75 +147,67 @@ pub fn created(p: u8, option: u8) -> Task
 pub fn with_priority(x: Task, p: u8) -> Task
     ensures { result ≡ with_priority x p }
 {
-    let mut r = x;
-    r.priority = p;
-    r
+    Task { priority: p, ..x }
 }
 
 pub fn with_suspended(x: Task, n: u8) -> Task
     ensures { result ≡ with_suspended x n }
 {
-    let mut r = x;
-    r.suspended = n;
-    r
+    Task { suspended: n, ..x }
 }
 
 pub fn with_wakeups(x: Task, n: u8) -> Task
     ensures { result ≡ with_wakeups x n }
 {
-    let mut r = x;
-    r.wakeups = n;
-    r
+    Task { wakeups: n, ..x }
 }
 
 pub fn with_activations(x: Task, n: u8) -> Task
     ensures { result ≡ with_activations x n }
 {
-    let mut r = x;
-    r.activations = n;
-    r
+    Task {
+        activations: n,
+        ..x
+    }
 }
 
 // Record x in place of record k, where level `from` lists k and level `to` lists x: this is `settled time k x`, for a caller that knows both levels.
 pub fn settled(k: Task, x: Task, from: u8, to: u8, time: u32) -> Task
     ensures { result ≡ with_marks x (cond (eqb from to) k.charge 0) (cond (not (eqb to 0) && not (eqb from to)) time x.entered) }
 {
-    let mut r = x;
-    if from == to {
-        r.charge = k.charge;
-        return r;
+    let enters = to != 0 && from != to;
+    Task {
+        charge: if from == to { k.charge } else { 0 },
+        entered: if enters { time } else { x.entered },
+        ..x
     }
-    r.charge = 0;
-    if to == 0 {
-        return r;
-    }
-    r.entered = time;
-    r
 }
 
 pub fn waiting(x: Task, wait: Wait) -> Task
     ensures { result ≡ waiting x wait }
 {
-    let mut r = x;
-    r.wait = wait;
-    r.code = SERVED;
-    r.handed = 0;
-    r
+    Task {
+        wait,
+        code: SERVED,
+        handed: 0,
+        ..x
+    }
 }
 
 pub fn ended(x: Task, code: u8, bits: u32) -> Task
     ensures { result ≡ ended x code bits }
 {
-    let none = no_wait();
-    let mut r = x;
-    r.wait = none;
-    r.code = code;
-    r.handed = bits;
-    r
+    Task {
+        wait: no_wait(),
+        code,
+        handed: bits,
+        ..x
+    }
 }
 
 // ---- news of the object that is waited on
 // Bits meet a pattern: in mode 0 any of its bits, in any other all of them.
+#[tactic(auto, unfolding(model::specs::Flag::is_met))]
 pub fn is_met(pattern: u32, mode: u32, bits: u32) -> bool
     ensures { result ≡ is_met pattern mode bits }
 {
@@ -231,14 +218,14 @@ pub fn is_met(pattern: u32, mode: u32, bits: u32) -> bool
     common == pattern
 }
 
+#[tactic(auto, unfolding(model::specs::Task::told))]
 pub fn told(news: News, x: Task) -> Task
     ensures { result ≡ told news x }
 {
     match news {
         News::Deleted => ended(x, DLT, 0),
         News::Bits { bits } => {
-            let met = is_met(x.wait.pattern, x.wait.mode as u32, bits);
-            if met {
+            if is_met(x.wait.pattern, x.wait.mode as u32, bits) {
                 return ended(x, SERVED, bits);
             }
             x
@@ -250,5 +237,5 @@ pub fn told(news: News, x: Task) -> Task
 pub fn wait_number(code: u8) -> i32
     ensures { result ≡ wait_number code }
 {
-    0 - (code as i32)
+    -i32::from(code)
 }

@@ -24,11 +24,8 @@ pub fn asleep(timeout: u32) -> Wait
 {
     Wait {
         kind: SLEEP,
-        object: 0,
-        mode: 0,
-        spare: 0,
         remaining: timeout,
-        pattern: 0,
+        ..no_wait()
     }
 }
 
@@ -38,10 +35,8 @@ pub fn on_semaphore(semaphore: u8, timeout: u32) -> Wait
     Wait {
         kind: SEMAPHORE,
         object: semaphore,
-        mode: 0,
-        spare: 0,
         remaining: timeout,
-        pattern: 0,
+        ..no_wait()
     }
 }
 
@@ -51,10 +46,10 @@ pub fn on_flag(flag: u8, pattern: u32, mode: u8, timeout: u32) -> Wait
     Wait {
         kind: FLAG,
         object: flag,
-        mode: mode,
-        spare: 0,
+        mode,
         remaining: timeout,
-        pattern: pattern,
+        pattern,
+        ..no_wait()
     }
 }
 
@@ -65,10 +60,9 @@ pub fn to_send(queue: u8, element: u32, timeout: u32) -> Wait
     Wait {
         kind: SEND,
         object: queue,
-        mode: 0,
-        spare: 0,
         remaining: timeout,
         pattern: element,
+        ..no_wait()
     }
 }
 
@@ -78,9 +72,7 @@ pub fn to_receive(queue: u8, timeout: u32) -> Wait
     Wait {
         kind: RECEIVE,
         object: queue,
-        mode: 0,
-        spare: 0,
         remaining: timeout,
-        pattern: 0,
+        ..no_wait()
     }
 }

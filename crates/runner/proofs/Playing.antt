@@ -3,29 +3,29 @@
 use Prim.Native.Nat.{ℕ, suc, ◌+◌, ◌*◌, ◌<◌, ◌≤◌}
 use mathlib.Core.Path.{◌≡◌, refl, ap, sym, ◌∙◌}
 use mathlib.Core.Bool.{Bool}
+use Rattle.std.specs.Prelude.{Option, Some, None, Ok, Err}
 use mathlib.Core.List.{List, [], ◌∷◌, ◌++◌, map, append-nil}
 use native.Mathlib.Numerals.{add-one}
 use native.Mathlib.Nat.{add-zero, zero-add}
 use native.Mathlib.Omega.{arith}
-use lib.ListN.{length, set, take, drop, length-append, length-set, replicate}
+use lib.ListN.{length, set, take, drop, length-append, length-set}
 use lib.Seq.{take-suc-set}
 use Rattle.model.specs.declared.State.{State}
-use Rattle.model.specs.declared.Context.{Context}
-use Rattle.model.specs.declared.Call.{Call}
+use Rattle.model.specs.State.{fresh}
 use Rattle.model.specs.Call.{step_from}
 use Rattle.step.specs.declared.Stepped.{Stepped}
 use Rattle.step.specs.Answer.{answer_of}
-use Rattle.tables.specs.Lent.{state_in}
-use Rattle.lines.specs.declared.line.Line.TheVariants.{Reads, Unreadable}
+use Rattle.lines.specs.declared.line.Line.{Line}
 use Rattle.lines.specs.Lines.{line_of}
 use Rattle.lines.proofs.Long.{extra, line_has}
-use Rattle.walk.specs.declared.Turn.TheVariants.{Plays, Faults}
 use Rattle.walk.specs.Script.{script_in}
 use Rattle.walk.specs.Rows.{Row, row_text, rows_text}
 use Rattle.walk.proofs.Playing.{faulted, played, reaches}
 use Rattle.walk.proofs.Walking as walking
 use Rattle.walk.proofs.Walking.{Walk, answer_row}
 use Rattle.runner.specs.declared.Played.{Played}
+use Rattle.runner.specs.declared.Refusal.{Refusal}
+use Rattle.runner.specs.declared.Refusal.TheVariants.{Unreadable}
 use Rattle.answers.specs.Slots.{slot_of, kept_text, kept_of}
 use Rattle.runner.specs.Kept.{keep, Plays as Keeps}
 use Rattle.runner.proofs.Scripts.{row_kept}
@@ -39,7 +39,7 @@ pub record Left (wide : Bool) (file : List ℕ) (h : ℕ) (ks : List ℕ) (at n 
   pub total : size ≡ 16 + length (rows_text 1 rows)
 
 pub starts : (wide : Bool) (file : List ℕ) (h : ℕ) (ks : List ℕ) → (h < length file → 18 ≤ h) → h ≤ length file → length ks ≡ 3639
-    → Left wide file h ks h 0 16 0 (state_in (replicate 300 0) (replicate 125 0) (replicate 744 0) (replicate 696 0) (replicate 238 0))
+    → Left wide file h ks h 0 16 0 fresh
 unfolding rows_text
 starts wide file h ks p q a = record { rows = []; walk = walking.starts wide file h p q; short = omega arith; places = a; kept = refl; total = refl }
 
@@ -57,52 +57,40 @@ map_snoc f (x ∷ xs) y = ap (λ (r : List ℕ). f x ∷ r) (map_snoc f xs y)
 
 module _ (wide : Bool) (file : List ℕ) (h : ℕ) (ks : List ℕ) (at n size run : ℕ) (s : State) (fits : length file ≤ 65536) (l : Left wide file h ks at n size run s) where
   -- the end of the file
-  pub ends : (r : Played) → length file ≤ at → r.fault ≡ 0 → r.count ≡ n → r.total ≡ size → Keeps r ks (script_in wide h file 2)
-  ends r e f g t =
+  pub ends : (r : Played) → length file ≤ at → r.count ≡ n → r.total ≡ size → Keeps (Ok r) ks (script_in wide h file 2)
+  ends r e g t =
       let z = walking.ends wide file h l.rows at n run s l.walk e in
-      record {
-        places = l.places;
-        fault = f ∙ sym z.0;
-        count = λ _. rw (g, ← z.1) (sym l.walk.many);
-        rows = λ _. rw (g, ← z.1) l.kept;
-        total = λ _. rw (t, ← z.1) l.total;
-      }
+      (l.places, record { none = z.0; count = rw (g, ← z.1) (sym l.walk.many); rows = rw (g, ← z.1) l.kept; total = rw (t, ← z.1) l.total })
 
   -- a line that can't be read
-  pub stops : at < length file → line_of wide (drop at file) ≡ Unreadable → (r : Played) → r.fault ≡ n + 2 → Keeps r ks (script_in wide h file 2)
-  stops more g r f =
-      let z = walking.stops wide file h l.rows at n run s l.walk more Faults s (faulted run at s (line_of wide (drop at file)) g) refl in
-      record {
-        places = l.places;
-        fault = f ∙ z;
-        count = λ y. absurd (omega arith);
-        rows = λ y. absurd (omega arith);
-        total = λ y. absurd (omega arith);
-      }
+  pub stops : at < length file → line_of wide (drop at file) ≡ None → (e : Refusal) → e ≡ Unreadable (n + 2) → Keeps (Err e) ks (script_in wide h file 2)
+  stops more g e f =
+      let z = walking.stops wide file h l.rows at n run s l.walk more None s (faulted run at s (line_of wide (drop at file)) g) refl in
+      (f ∙ ap Unreadable z, omega (arith, z))
 
   -- a line follows: few came before it
   pub few : at < length file → n ≤ 3639
   few more = omega (arith, l.walk.behind more)
 
   -- a line that can, and its step
-  module _ (more : at < length file) (x : Context) (c : Call) (m : ℕ) (g : line_of wide (drop at file) ≡ Reads x c m) where
-    has : 17 + extra wide ≤ m
+  module _ (more : at < length file) (x : Line) (g : line_of wide (drop at file) ≡ Some x) where
+    has : 17 + extra wide ≤ x.next
     has = rw g at (line_has wide (drop at file))
 
     -- it ends further on, and within the file
-    pub within : (at < at + m) × (at + m ≤ length file)
-    within = (omega (arith, has), reaches wide file at x c m (omega arith) g)
+    pub within : (at < at + x.next) × (at + x.next ≤ length file)
+    within = (omega (arith, has), reaches wide file at x (omega arith) g)
 
     -- so there is a place for its row
     pub room : n < 3639
     room = omega (arith, has, within.1, l.walk.behind more)
 
-    module _ (r : Stepped) (s' : State) (i : answer_of r s' ≡ step_from run s x c) where
-      onward : (at < at + m) × Walk wide file h (l.rows ++ (answer_row r ∷ [])) (at + m) (n + 1) r.running s'
-      onward = walking.on wide file h l.rows at n run s l.walk more (Plays r (at + m)) s' (played run at s (line_of wide (drop at file)) x c m r s' g i) r (at + m) refl
+    module _ (r : Stepped) (s' : State) (i : answer_of r s' ≡ step_from run s x.context x.call) where
+      onward : (at < at + x.next) × Walk wide file h (l.rows ++ (answer_row r ∷ [])) (at + x.next) (n + 1) r.running s'
+      onward = walking.on wide file h l.rows at n run s l.walk more (Some (record { answer = r; next = at + x.next })) s' (played run at s (line_of wide (drop at file)) x r s' g i) r (at + x.next) refl
 
       pub turns : (v k j : ℕ) → v ≡ slot_of r.code → k ≡ kept_of r.code r.running → (j ≡ length (kept_text (n + 1) v r.running)) × (j ≤ 20)
-          → Left wide file h (set ks n k) (at + m) (n + 1) (size + j) r.running s'
+          → Left wide file h (set ks n k) (at + x.next) (n + 1) (size + j) r.running s'
       turns v k j f q w =
           let e : 1 + length l.rows ≡ n + 1 = omega (arith, l.walk.many) in
           record {

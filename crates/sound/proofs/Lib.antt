@@ -1,2 +1,2 @@
-mod Tables
-mod Whole
+pub mod Tables
+pub mod Whole

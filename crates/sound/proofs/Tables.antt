@@ -8,10 +8,10 @@ use native.Mathlib.Numerals.{add-one}
 use native.Mathlib.Omega.{arith}
 use lib.ListN.{length, take, get_or, set, length-map, get_or-map}
 use lib.Seq.{take-suc, take-suc-set, take_all}
+use Rattle.model.specs.declared.Queue.{Queue}
 use Rattle.model.specs.declared.Task.{Task}
 use Rattle.model.specs.Task.{no_task}
 use Rattle.model.specs.Test.{below, lists_exactly}
-use Rattle.queues.specs.Queues.{queues_of}
 use Rattle.crossing.specs.Crossing.{crosses_all}
 use Rattle.crossing.proofs.Exactly.{exactly}
 
@@ -35,10 +35,10 @@ module _ {A : Type 0} (g : A → ℕ) (xs : List A) where
   fill_end w i hw hx e = sym (take_all i w hw) ∙ e ∙ take_all i (map g xs) (rw length-map hx)
 
 -- crossing off what the tasks' records want
-pub wanted_exactly : (g : Task → ℕ) (n : ℕ) (ls : List ℕ) (xs : List Task) → length xs ≡ 25 → g no_task ≡ 0 → g (get_or xs 0 no_task) ≡ 0
-    → crosses_all n 0 ls (map g xs) ≡ lists_exactly (queues_of n ls) n (λ t. g (get_or xs t no_task))
-wanted_exactly g n ls xs hx none origin =
-    exactly n ls (map g xs) (rw length-map (omega arith)) (at 0 ∙ origin) (λ t. g (get_or xs t no_task)) (λ t. sym (at t))
+pub wanted_exactly : (g : Task → ℕ) (n : ℕ) (qs : List Queue) (xs : List Task) → length qs ≡ n → length xs ≡ 25 → g no_task ≡ 0 → g (get_or xs 0 no_task) ≡ 0
+    → crosses_all 0 qs (map g xs) ≡ lists_exactly qs n (λ t. g (get_or xs t no_task))
+wanted_exactly g n qs xs hq hx none origin =
+    exactly n qs (map g xs) hq (rw length-map (omega arith)) (at 0 ∙ origin) (λ t. g (get_or xs t no_task)) (λ t. sym (at t))
   where
     at : (t : ℕ) → get_or (map g xs) t 0 ≡ g (get_or xs t no_task)
     at t = ap (λ (d : ℕ). get_or (map g xs) t d) (sym none) ∙ get_or-map g xs t no_task

@@ -1,43 +1,29 @@
 // The test that the public entries make of any state: whether it is sound. A task's record is read once, and with it the first place of
 // its level; docs/ARCHITECTURE.md counts how often each place is looked at.
 // Each function is a definition of model/specs/Test, for every value; it rests on sound_parts for single places, on crossing for
-// queues, and on the tables that it is lent.
+// queues, and on the state that it is lent.
 #![tactic(auto)]
 
-ghost use Rattle.std.specs.Prelude.{◌≡◌, [], drop};
-ghost use Rattle.model.specs.DataQueue.{places_of};
-ghost use Rattle.model.specs.Test.{below, zeros, is_unserved_in, is_origin, is_sound};
-ghost use Rattle.queues.specs.Queues.{waits_of};
-ghost use Rattle.numbers.specs.Numbers.{held_in};
-ghost use Rattle.tables.specs.Lent.{state_in};
+ghost use Rattle.std.specs.Prelude.{◌≡◌, drop, eqb, length};
+ghost use Rattle.model.specs.Test.{below, zeros, are_queues, is_unserved_in, is_sized, is_origin, is_sound};
 ghost use Rattle.sound.specs.Parts.{slice_at, count_at, flag_at, stock_at, seen_in};
 
 use crossing::cross_all;
-use model::{State, Wait};
-use numbers::elements::element_at;
-use numbers::{
-    NumberTable, attributes_at, bits_at, capacity_at, count_at, maximum_at, slice_at, taken_at,
-};
-use queues::lent::{first_of_level, first_waiter};
-use queues::{Levels, Waits};
-use stored::{Bytes, Words};
+use model::{Numbers, Queue, State, Task, Wait};
+use places::read;
+use rows::{first_of, second_of};
 
 // ---- records
 // Whether a wait on a data queue is one that the queue can't serve. What stands at the queue is read for such a wait, and for no other.
-fn is_unserved_in(
-    bytes: &Bytes,
-    words: &Words,
-    waits: &Waits,
-    numbers: &NumberTable,
-    w: Wait,
-) -> bool
-    ensures { result ≡ is_unserved_in (state_in bytes.now words.now [] waits.now numbers.now) w }
+#[tactic(auto, unfolding(model::specs::Test::is_unserved))]
+fn is_unserved_in(s: &State, w: Wait) -> bool
+    ensures { result ≡ is_unserved_in s.now w }
 {
     let on_queue = sound_parts::queue::is_queue_wait(w);
     if !on_queue {
         return true;
     }
-    let z = tables::queue_at(bytes, words, waits, numbers, w.object as usize);
+    let z = tables::queue_at(s, w.object as usize);
     sound_parts::queue::is_unserved(w, z.capacity, z.taken, z.waiter.wait.kind)
 }
 
@@ -53,35 +39,34 @@ struct Seen {
     rows: [u8; 25],
 }
 
-fn look(bytes: &Bytes, words: &Words, levels: &Levels, waits: &Waits, numbers: &NumberTable) -> Seen
-    ensures { result ≡ seen_in (state_in bytes.now words.now levels.now waits.now numbers.now) }
+#[tactic(auto, using(crate::proofs::Tables::below_on, crate::proofs::Tables::below_none, crate::proofs::Tables::fill_on, crate::proofs::Tables::fill_end))]
+fn look(s: &State) -> Seen
+    ensures { result ≡ seen_in s.now }
 {
+    // as a slice, which tells the prover how long it is
+    let tasks: &[Task] = &s.tasks;
     let mut sound = true;
     let mut charges = true;
     let mut unmet = true;
     let mut unserved = true;
     let mut by_level = [0u8; 25];
     let mut by_row = [0u8; 25];
-    let mut t: usize = 0;
-    while t < 25 {
-        let x = stored::record_at(bytes, words, t);
-        let wait = x.wait;
-        let bits = bits_at(numbers, wait.object as usize);
+    for (t, x) in tasks.iter().enumerate() {
+        let x = *x;
+        let bits = read(&s.numbers.bits, x.wait.object as usize, 0);
         let level = records::level_of(x);
-        let row = records::row_of(x);
-        let first = first_of_level(levels, level as usize);
-        let slice = slice_at(numbers, level as usize);
+        let first = first_of(&s.levels, level as usize);
+        let slice = read(&s.numbers.slices, level as usize, 0);
         let sound_here = sound_parts::record::task_sound(x);
         let charge_here = sound_parts::record::charge_sound(x.charge, t as u8, first, slice);
-        let unmet_here = sound_parts::flag::is_unmet(wait, bits);
-        let unserved_here = is_unserved_in(bytes, words, waits, numbers, wait);
+        let unmet_here = sound_parts::flag::is_unmet(x.wait, bits);
+        let unserved_here = is_unserved_in(s, x.wait);
         sound = sound_here & sound;
         charges = charge_here & charges;
         unmet = unmet_here & unmet;
         unserved = unserved_here & unserved;
         by_level[t] = level;
-        by_row[t] = row;
-        t += 1;
+        by_row[t] = records::row_of(x);
     }
     Seen {
         sound,
@@ -94,148 +79,166 @@ fn look(bytes: &Bytes, words: &Words, levels: &Levels, waits: &Waits, numbers: &
 }
 
 // ---- slices, counts, flags and data queues
-fn slices_sound(numbers: &NumberTable) -> bool
-    ensures { result ≡ below 31 (slice_at (held_in numbers.now)) }
+#[tactic(auto, using(crate::proofs::Tables::below_on, crate::proofs::Tables::below_none))]
+fn slices_sound(numbers: &Numbers) -> bool
+    ensures { result ≡ below 31 (slice_at numbers.now) }
 {
     let mut sound = true;
-    let mut l: usize = 0;
-    while l < 31 {
-        let slice = slice_at(numbers, l);
-        let here = sound_parts::record::slice_sound(slice);
+    for slice in &numbers.slices {
+        let here = sound_parts::record::slice_sound(*slice);
         sound = here & sound;
-        l += 1;
     }
     sound
 }
 
-fn counts_sound(numbers: &NumberTable, waits: &Waits) -> bool
-    ensures { result ≡ below 13 (count_at (held_in numbers.now) (waits_of waits.now)) }
+#[tactic(auto, using(crate::proofs::Tables::below_on, crate::proofs::Tables::below_none))]
+fn counts_sound(numbers: &Numbers, waits: &[Queue]) -> bool
+    ensures { result ≡ below 13 (count_at numbers.now waits.now) }
 {
     let mut sound = true;
-    let mut m: usize = 0;
-    while m < 13 {
-        let count = count_at(numbers, m);
-        let maximum = maximum_at(numbers, m);
-        let first = first_waiter(waits, m);
+    for m in 0..13 {
+        let count = numbers.counts[m];
+        let maximum = numbers.maxima[m];
+        let first = first_of(waits, m);
         let here = sound_parts::record::count_sound(count, maximum, first);
         sound = here & sound;
-        m += 1;
     }
     sound
 }
 
-fn flags_sound(numbers: &NumberTable, waits: &Waits) -> bool
-    ensures { result ≡ below 9 (flag_at (held_in numbers.now) (waits_of waits.now)) }
+#[tactic(auto, using(crate::proofs::Tables::below_on, crate::proofs::Tables::below_none))]
+fn flags_sound(numbers: &Numbers, waits: &[Queue]) -> bool
+    ensures { result ≡ below 9 (flag_at numbers.now waits.now) }
 {
     let mut sound = true;
-    let mut f: u8 = 0;
-    while f < 9 {
-        let row = records::flag_row(f) as usize;
-        let attributes = attributes_at(numbers, f as usize);
-        let bits = bits_at(numbers, f as usize);
-        let first = first_waiter(waits, row);
-        let second = sound_parts::flag::second_waiter(waits, row);
+    for f in 0..9 {
+        let row = records::flag_row(f as u8) as usize;
+        let attributes = numbers.attributes[f];
+        let bits = numbers.bits[f];
+        let first = first_of(waits, row);
+        let second = second_of(waits, row);
         let here = sound_parts::flag::flag_sound(attributes, bits, first, second);
         sound = here & sound;
-        f += 1;
     }
     sound
 }
 
 // Whether the places of a data queue hold nothing past its last element.
-fn is_rest_free(numbers: &NumberTable, q: usize, taken: u32) -> bool
-    ensures { result ≡ zeros (drop taken (places_of (held_in numbers.now).elements q)) }
+#[tactic(auto, using(crossing::proofs::Steps::zeros_on, crossing::proofs::Steps::zeros_end))]
+fn is_rest_free(places: &[u32], taken: u32) -> bool
+    ensures { result ≡ zeros (drop taken places.now) }
 {
     let mut free = true;
-    let mut i = taken as usize;
-    while i < 16 {
-        let element = element_at(numbers, q, i);
+    for i in taken as usize..places.len() {
+        let element = places[i];
         free = free & (element == 0);
-        i += 1;
     }
     free
 }
 
-fn stocks_sound(numbers: &NumberTable, waits: &Waits) -> bool
-    ensures { result ≡ below 9 (stock_at (held_in numbers.now) (waits_of waits.now)) }
+#[tactic(auto, unfolding(model::specs::DataQueue::places_of, model::specs::Test::is_stock_sound), using(crate::proofs::Tables::below_on, crate::proofs::Tables::below_none))]
+fn stocks_sound(numbers: &Numbers, waits: &[Queue]) -> bool
+    ensures { result ≡ below 9 (stock_at numbers.now waits.now) }
 {
     let mut sound = true;
-    let mut q: u8 = 0;
-    while q < 9 {
-        let row = records::queue_row(q) as usize;
-        let capacity = capacity_at(numbers, q as usize);
-        let taken = taken_at(numbers, q as usize);
-        let free = is_rest_free(numbers, q as usize, taken);
-        let first = first_waiter(waits, row);
+    for q in 0..9 {
+        let row = records::queue_row(q as u8) as usize;
+        let capacity = numbers.capacities[q];
+        let taken = numbers.taken[q];
+        let free = is_rest_free(&numbers.elements[q * 16..q * 16 + 16], taken);
+        let first = first_of(waits, row);
         let here = sound_parts::queue::stock_sound(capacity, taken, free, first);
         sound = here & sound;
-        q += 1;
     }
     sound
 }
 
 // ---- the state
-// Place 0 of each table, read off them.
-fn is_origin_in(bytes: &Bytes, words: &Words, numbers: &NumberTable) -> bool
-    ensures { result ≡ is_origin (state_in bytes.now words.now [] [] numbers.now) }
+// Whether the tables have their places. So their types say: of these three functions no code is left.
+fn has_places<T>(xs: &[T], n: usize) -> bool
+    ensures { result ≡ eqb (length xs.now) n }
 {
-    let x = stored::record_at(bytes, words, 0);
-    let slice = slice_at(numbers, 0);
-    let count = count_at(numbers, 0);
-    let maximum = maximum_at(numbers, 0);
-    let attributes = attributes_at(numbers, 0);
-    let bits = bits_at(numbers, 0);
-    let capacity = capacity_at(numbers, 0);
-    sound_parts::record::is_origin(x, slice, count, maximum, attributes, bits, capacity)
+    xs.len() == n
 }
 
-pub fn sound_in(
-    bytes: &Bytes,
-    words: &Words,
-    levels: &Levels,
-    waits: &Waits,
-    numbers: &NumberTable,
-) -> bool
-    ensures { result ≡ is_sound (state_in bytes.now words.now levels.now waits.now numbers.now) }
+#[tactic(auto, using(crate::proofs::Whole::queues_sized))]
+fn are_queues(ls: &[Queue], n: usize) -> bool
+    ensures { result ≡ are_queues n ls.now }
 {
-    // as slices, which tell the prover how long they are
-    let ls: &[u8] = levels;
-    let ws: &[u8] = waits;
-    let ns: &[u32] = numbers;
-    let origin = is_origin_in(bytes, words, numbers);
-    let seen = look(bytes, words, levels, waits, numbers);
-    let slices = slices_sound(numbers);
-    let counts = counts_sound(numbers, waits);
-    let flags = flags_sound(numbers, waits);
-    let stocks = stocks_sound(numbers, waits);
-    let by_level = seen.levels;
-    let runnable = cross_all(ls, 31, by_level);
-    let by_row = seen.rows;
-    let waiting = cross_all(ws, 29, by_row);
-    origin
-        & (seen.sound
-            & (slices
-                & (seen.charges
+    for q in ls {
+        let has = has_places(&q.places, 24);
+        if !has {
+            return false;
+        }
+    }
+    has_places(ls, n)
+}
+
+fn is_sized(s: &State) -> bool
+    ensures { result ≡ is_sized s.now }
+{
+    let ns = &s.numbers;
+    let tasks = has_places(&s.tasks, 25);
+    let levels = are_queues(&s.levels, 31);
+    let waits = are_queues(&s.waits, 29);
+    let slices = has_places(&ns.slices, 31);
+    let counts = has_places(&ns.counts, 13);
+    let maxima = has_places(&ns.maxima, 13);
+    let attributes = has_places(&ns.attributes, 9);
+    let bits = has_places(&ns.bits, 9);
+    let capacities = has_places(&ns.capacities, 9);
+    let taken = has_places(&ns.taken, 9);
+    let elements = has_places(&ns.elements, 144);
+    tasks
+        & (levels
+            & (waits
+                & (slices
                     & (counts
-                        & (flags
-                            & (seen.unmet & (stocks & (seen.unserved & (runnable & waiting)))))))))
+                        & (maxima & (attributes & (bits & (capacities & (taken & elements)))))))))
+}
+
+// Place 0 of each table.
+fn is_origin_in(s: &State) -> bool
+    ensures { result ≡ is_origin s.now }
+{
+    let ns = &s.numbers;
+    sound_parts::record::is_origin(
+        s.tasks[0],
+        ns.slices[0],
+        ns.counts[0],
+        ns.maxima[0],
+        ns.attributes[0],
+        ns.bits[0],
+        ns.capacities[0],
+    )
+}
+
+#[tactic(auto, using(crate::proofs::Whole::sound_tested))]
+pub fn sound_in(s: &State) -> bool
+    ensures { result ≡ is_sound s.now }
+{
+    let sized = is_sized(s);
+    let origin = is_origin_in(s);
+    let seen = look(s);
+    let slices = slices_sound(&s.numbers);
+    let counts = counts_sound(&s.numbers, &s.waits);
+    let flags = flags_sound(&s.numbers, &s.waits);
+    let stocks = stocks_sound(&s.numbers, &s.waits);
+    let runnable = cross_all(&s.levels, seen.levels);
+    let waiting = cross_all(&s.waits, seen.rows);
+    sized
+        & (origin
+            & (seen.sound
+                & (slices
+                    & (seen.charges
+                        & (counts
+                            & (flags
+                                & (seen.unmet
+                                    & (stocks & (seen.unserved & (runnable & waiting))))))))))
 }
 
 pub fn is_sound(s: State) -> bool
     ensures { result ≡ is_sound s }
 {
-    let mut bytes = [0u8; 300];
-    let mut words = [0u32; 125];
-    let mut levels = [0u8; 744];
-    let mut waits = [0u8; 696];
-    let mut numbers = [0u32; 238];
-    tables::spread(
-        &mut bytes,
-        &mut words,
-        &mut levels,
-        &mut waits,
-        &mut numbers,
-        s,
-    );
-    sound_in(&bytes, &words, &levels, &waits, &numbers)
+    sound_in(&s)
 }

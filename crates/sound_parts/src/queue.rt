@@ -21,8 +21,7 @@ pub fn stock_sound(capacity: u32, taken: u32, free: bool, first: u8) -> bool
 pub fn is_queue_wait(w: Wait) -> bool
     ensures { result ≡ is_queue_wait w }
 {
-    let kind = w.kind;
-    (kind == SEND) | (kind == RECEIVE)
+    matches!(w.kind, SEND | RECEIVE)
 }
 
 // No place is free. The number that a queue keeps is its capacity plus 1, and nothing is added to the elements, whose number may be any here.

@@ -8,12 +8,14 @@ use crate::queue::is_queue_wait;
 use model::{Task, Wait};
 use records::{DLT, FLAG, NOTHING, RELEASED, SEMAPHORE, SEND, SERVED, SLEEP, TIMEOUT};
 
+#[tactic(auto, unfolding(model::specs::Plan::within))]
 fn is_within(low: u8, n: u8, top: u8) -> bool
     ensures { result ≡ within low n top }
 {
     (low <= n) & (n <= top)
 }
 
+// By hand: all fields are looked at without a jump; the same of a record below.
 fn is_no_wait(w: Wait) -> bool
     ensures { result ≡ is_no_wait w }
 {
@@ -44,7 +46,7 @@ fn is_blank(x: Task) -> bool
 fn is_wait_code(v: u8) -> bool
     ensures { result ≡ is_wait_code v }
 {
-    (v == SERVED) | ((v == TIMEOUT) | ((v == DLT) | (v == RELEASED)))
+    matches!(v, SERVED | TIMEOUT | DLT | RELEASED)
 }
 
 fn is_resting(x: Task) -> bool
@@ -107,6 +109,7 @@ fn is_spare_sound(x: Task) -> bool
     (x.spare == 0) & (x.wait.spare == 0)
 }
 
+#[tactic(auto, unfolding(model::specs::Test::is_task_sound))]
 pub fn task_sound(x: Task) -> bool
     ensures { result ≡ is_task_sound x }
 {
@@ -148,12 +151,14 @@ pub fn slice_sound(slice: u32) -> bool
 }
 
 // The charge of task t, in whose level `first` stands first.
+#[tactic(auto, unfolding(model::specs::Test::is_charge_sound))]
 pub fn charge_sound(charge: u32, t: u8, first: u8, slice: u32) -> bool
     ensures { result ≡ is_charge_sound charge t first slice }
 {
     (charge == 0) | ((first == t) & (charge < slice))
 }
 
+#[tactic(auto, unfolding(model::specs::Test::is_count_sound))]
 pub fn count_sound(count: u32, maximum: u32, first: u8) -> bool
     ensures { result ≡ is_count_sound count maximum first }
 {

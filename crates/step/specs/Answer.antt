@@ -1,4 +1,4 @@
--- A step's answer, put together from what it returned and the state that the tables it was lent stand for.
+-- A step's answer, put together from what it returned and the state that it was lent.
 use Rattle.model.specs.declared.State.{State}
 use Rattle.model.specs.declared.Answer.{Answer}
 use Rattle.step.specs.declared.Stepped.{Stepped}

@@ -1,74 +1,30 @@
-// A state as five tables that can be lent: it goes into them and comes out of them, and what a call looks at is read off them.
-// Each contract names the state that the tables stand for (specs/Lent); it rests on stored, queues and numbers.
+// What a call looks at of a state: the semaphore, the event flag or the data queue that it names.
+// Each function is a definition of model/specs/State, for every state; it rests on places, rows and stored.
 #![tactic(auto)]
 
 ghost use Rattle.std.specs.Prelude.{◌≡◌};
 ghost use Rattle.model.specs.DataQueue.{queue_row};
 ghost use Rattle.model.specs.Flag.{flag_row};
-ghost use Rattle.tables.specs.Lent.{state_in};
-ghost use Rattle.tables.specs.Seen.{semaphore_in, flag_in, queue_in};
+ghost use Rattle.model.specs.State.{semaphore, flag, data_queue};
 
 use model::{DataQueue, Flag, Semaphore, State};
-use numbers::NumberTable;
-use numbers::elements::element_at;
-use queues::lent::first_waiter;
-use queues::{Levels, Waits};
-use stored::{Bytes, Words, record_at};
+use places::elements::element_at;
+use places::read;
+use rows::first_of;
+use stored::record_at;
 
-pub fn spread(
-    bytes: &mut Bytes,
-    words: &mut Words,
-    levels: &mut Levels,
-    waits: &mut Waits,
-    numbers: &mut NumberTable,
-    s: State,
-)
-    ensures { state_in bytes.new words.new levels.new waits.new numbers.new ≡ s }
-{
-    let tasks = s.tasks;
-    let ls = s.levels;
-    let ws = s.waits;
-    let ns = s.numbers;
-    stored::spread(bytes, words, tasks);
-    queues::spread_levels(levels, ls);
-    queues::spread_waits(waits, ws);
-    numbers::spread(numbers, ns);
-}
-
-pub fn gather(
-    bytes: &Bytes,
-    words: &Words,
-    levels: &Levels,
-    waits: &Waits,
-    numbers: &NumberTable,
-) -> State
-    ensures { result ≡ state_in bytes.now words.now levels.now waits.now numbers.now }
-{
-    let tasks = stored::gather(bytes, words);
-    let ls = queues::gather_levels(levels);
-    let ws = queues::gather_waits(waits);
-    let ns = numbers::gather(numbers);
-    State {
-        tasks,
-        levels: ls,
-        waits: ws,
-        numbers: ns,
-    }
-}
-
-// ---- what a call looks at
-// The semaphore that a call names.
-pub fn semaphore_at(waits: &Waits, numbers: &NumberTable, m: usize) -> Semaphore
-    ensures { result ≡ semaphore_in waits.now numbers.now m }
+pub fn semaphore_at(s: &State, m: usize) -> Semaphore
+    ensures { result ≡ semaphore s.now m }
 {
     Semaphore {
-        count: numbers::count_at(numbers, m),
-        maximum: numbers::maximum_at(numbers, m),
-        first: first_waiter(waits, m),
+        count: read(&s.numbers.counts, m, 0),
+        maximum: read(&s.numbers.maxima, m, 0),
+        first: first_of(&s.waits, m),
     }
 }
 
 // The row of a flag's waiters; a number that names no flag has none.
+#[tactic(auto, unfolding(model::specs::Flag::flag_row))]
 fn flag_row(f: usize) -> usize
     ensures { result ≡ flag_row f }
 {
@@ -78,18 +34,18 @@ fn flag_row(f: usize) -> usize
     records::flag_row(f as u8) as usize
 }
 
-// The flag that a call names.
-pub fn flag_at(waits: &Waits, numbers: &NumberTable, f: usize) -> Flag
-    ensures { result ≡ flag_in waits.now numbers.now f }
+pub fn flag_at(s: &State, f: usize) -> Flag
+    ensures { result ≡ flag s.now f }
 {
     Flag {
-        attributes: numbers::attributes_at(numbers, f),
-        bits: numbers::bits_at(numbers, f),
-        first: first_waiter(waits, flag_row(f)),
+        attributes: read(&s.numbers.attributes, f, 0),
+        bits: read(&s.numbers.bits, f, 0),
+        first: first_of(&s.waits, flag_row(f)),
     }
 }
 
 // The row of a data queue's waiters; a number that names no queue has none.
+#[tactic(auto, unfolding(model::specs::DataQueue::queue_row))]
 fn queue_row(q: usize) -> usize
     ensures { result ≡ queue_row q }
 {
@@ -100,21 +56,15 @@ fn queue_row(q: usize) -> usize
 }
 
 // The data queue that a call names, and the record of who waits there first.
-pub fn queue_at(
-    bytes: &Bytes,
-    words: &Words,
-    waits: &Waits,
-    numbers: &NumberTable,
-    q: usize,
-) -> DataQueue
-    ensures { result ≡ queue_in bytes.now words.now waits.now numbers.now q }
+pub fn queue_at(s: &State, q: usize) -> DataQueue
+    ensures { result ≡ data_queue s.now q }
 {
-    let first = first_waiter(waits, queue_row(q));
+    let first = first_of(&s.waits, queue_row(q));
     DataQueue {
-        capacity: numbers::capacity_at(numbers, q),
-        taken: numbers::taken_at(numbers, q),
-        oldest: element_at(numbers, q, 0),
-        first: first,
-        waiter: record_at(bytes, words, first as usize),
+        capacity: read(&s.numbers.capacities, q, 0),
+        taken: read(&s.numbers.taken, q, 0),
+        oldest: element_at(&s.numbers.elements, q, 0),
+        first,
+        waiter: record_at(&s.tasks, first as usize),
     }
 }

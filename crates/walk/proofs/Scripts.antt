@@ -4,12 +4,11 @@ use Prim.Native.Nat.{ℕ, zero, suc, ◌+◌, ◌-◌, ◌<◌, ◌≤◌}
 use mathlib.Core.Path.{◌≡◌, refl, ap, ◌∙◌}
 use mathlib.Core.Bool.{Bool}
 use mathlib.Core.List.{List, [], ◌∷◌}
+use Rattle.std.specs.Prelude.{Option, Some, None}
 use native.Mathlib.Omega.{arith}
 use lib.ListN.{length, drop, drop_of_length-le, length-drop}
 use lib.Seq.{drop-drop}
-use Rattle.model.specs.declared.Context.{Context}
-use Rattle.model.specs.declared.Call.{Call}
-use Rattle.lines.specs.declared.line.Line.TheVariants.{Reads, Unreadable}
+use Rattle.lines.specs.declared.line.Line.{Line}
 use Rattle.lines.specs.Lines.{line_of}
 use Rattle.walk.specs.Script.{done, fault, next, line_then, script_in}
 
@@ -30,15 +29,16 @@ module _ (wide : Bool) where
   some [] l h = absurd (omega arith)
   some (b ∷ s) l h = refl
 
-  pub script_fault : (s : List ℕ) (at l : ℕ) → at < length s → line_of wide (drop at s) ≡ Unreadable → script_in wide 0 (drop at s) l ≡ fault l
+  pub script_fault : (s : List ℕ) (at l : ℕ) → at < length s → line_of wide (drop at s) ≡ None → script_in wide 0 (drop at s) l ≡ fault l
   script_fault s at l h e = some (drop at s) l (simp length-drop (omega arith)) ∙ simp e
 
-  pub script_next : (s : List ℕ) (at l : ℕ) (x : Context) (c : Call) (n : ℕ) → at < length s → 0 < n → line_of wide (drop at s) ≡ Reads x c n
-      → script_in wide 0 (drop at s) l ≡ next x c (script_in wide 0 (drop (at + n) s) (l + 1))
-  script_next s at l x c n h p e =
+  pub script_next : (s : List ℕ) (at l : ℕ) (x : Line) → at < length s → 0 < x.next → line_of wide (drop at s) ≡ Some x
+      → script_in wide 0 (drop at s) l ≡ next x.context x.call (script_in wide 0 (drop (at + x.next) s) (l + 1))
+  script_next s at l x h p e =
+      let n = x.next in
       let q : at + (1 + (n - 1)) ≡ at + n = omega arith in
       some (drop at s) l (simp length-drop (omega arith))
       ∙ simp e
-      (ap (next x c)
+      (ap (next x.context x.call)
       (script_drop (n - 1) (drop 1 (drop at s)) (l + 1)
       ∙ ap (λ (t : List ℕ). script_in wide 0 t (l + 1)) (drop-drop (n - 1) 1 (drop at s) ∙ drop-drop (1 + (n - 1)) at s ∙ ap (λ (k : ℕ). drop k s) q)))

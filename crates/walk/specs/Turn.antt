@@ -1,20 +1,18 @@
 -- What playing one line gives: its answer and where the next line begins, or that it can't be read; and the state after it.
 -- It rests on the lines of lines and the step of model.
-use Rattle.std.specs.Prelude.{ℕ, ◌+◌}
+use Rattle.std.specs.Prelude.{ℕ, ◌+◌, Option, Some, None}
 use Rattle.model.specs.declared.State.{State}
 use Rattle.model.specs.declared.Answer.{Answer}
 use Rattle.lines.specs.declared.line.Line.{Line}
-use Rattle.lines.specs.declared.line.Line.TheVariants.{Reads, Unreadable}
 use Rattle.step.specs.declared.Stepped.{Stepped}
 use Rattle.model.specs.Call.{step_from}
 use Rattle.walk.specs.declared.Turn.{Turn}
-use Rattle.walk.specs.declared.Turn.TheVariants.{Plays, Faults}
 
 pub record Turned : Type 0 where
-  pub turn : Turn
+  pub turn : Option Turn
   pub state : State
 
-abbrev pub turn_in : Turn → State → Turned
+abbrev pub turn_in : Option Turn → State → Turned
 turn_in t s = record { turn = t; state = s }
 
 -- what a step returns, without the state
@@ -22,6 +20,6 @@ abbrev pub stepped_of : Answer → Stepped
 stepped_of r = record { code = r.code; running = r.running; value = r.value }
 
 -- a line that begins at `at`, where `run` runs
-unfoldable pub turn_of : ℕ → ℕ → State → Line → Turned
-turn_of run at s (Reads x c n) = let r = step_from run s x c in record { turn = Plays (stepped_of r) (at + n); state = r.state }
-turn_of run at s Unreadable = record { turn = Faults; state = s }
+unfoldable pub turn_of : ℕ → ℕ → State → Option Line → Turned
+turn_of run at s (Some x) = let r = step_from run s x.context x.call in record { turn = Some (record { answer = stepped_of r; next = at + x.next }); state = r.state }
+turn_of run at s None = record { turn = None; state = s }

@@ -1,12 +1,8 @@
--- What the loop of `rows::close` keeps, and what falls.
+-- What the loop of `rows::close` keeps.
 use mathlib.Core.Path.{◌≡◌}
-use Prim.Native.Nat.{◌<◌, ◌-◌}
 use lib.ListN.{length}
 use Rattle.model.specs.Row.{gap}
 use Rattle.rows.proofs.close.Given as goal
 
 abbrev pub invariant-loop-j : goal.invariant-loop-j
-invariant-loop-j l = (length l.q ≡ length l.initial.q) × (l.j < length l.initial.q) × (gap l.q l.j ≡ gap l.initial.q l.i)
-
-abbrev pub decreases-loop-j : goal.decreases-loop-j
-decreases-loop-j l = length l.initial.q - l.j
+invariant-loop-j l = (length l.q ≡ length l.initial.q) × (gap l.q l.j ≡ gap l.initial.q l.i)

@@ -17,25 +17,25 @@ pub returns-in_default : goal.returns-in_default
 returns-in_default c = law.stops _ _ _ _ _ _ _ _ _ c.requires.2 c.loop-at.invariant c.loop-at-test.true (sym (part_of (line_of c.args.wide) c.args.file.now c.loop-at.at c.read_line.ensures) ∙ c.in_default.is) _ refl
 
 pub bounds-kept-n : goal.bounds-kept-n
-bounds-kept-n c = law.room _ _ _ _ _ _ _ _ _ c.requires.2 c.loop-at.invariant c.loop-at-test.true _ _ _ (sym (part_of (line_of c.args.wide) c.args.file.now c.loop-at.at c.read_line.ensures) ∙ c.in-Reads.is)
+bounds-kept-n c = law.room _ _ _ _ _ _ _ _ _ c.requires.2 c.loop-at.invariant c.loop-at-test.true _ (sym (part_of (line_of c.args.wide) c.args.file.now c.loop-at.at c.read_line.ensures) ∙ c.in-Some.is)
 
 pub overflow_add-n : goal.overflow_add-n
-overflow_add-n c = record { fits = omega (arith, law.room _ _ _ _ _ _ _ _ _ c.requires.2 c.loop-at.invariant c.loop-at-test.true _ _ _ (sym (part_of (line_of c.args.wide) c.args.file.now c.loop-at.at c.read_line.ensures) ∙ c.in-Reads.is)) }
+overflow_add-n c = record { fits = omega (arith, law.room _ _ _ _ _ _ _ _ _ c.requires.2 c.loop-at.invariant c.loop-at-test.true _ (sym (part_of (line_of c.args.wide) c.args.file.now c.loop-at.at c.read_line.ensures) ∙ c.in-Some.is)) }
 
 pub overflow_cast-n : goal.overflow_cast-n
-overflow_cast-n c = record { fits = omega (arith, law.room _ _ _ _ _ _ _ _ _ c.requires.2 c.loop-at.invariant c.loop-at-test.true _ _ _ (sym (part_of (line_of c.args.wide) c.args.file.now c.loop-at.at c.read_line.ensures) ∙ c.in-Reads.is)) }
+overflow_cast-n c = record { fits = omega (arith, law.room _ _ _ _ _ _ _ _ _ c.requires.2 c.loop-at.invariant c.loop-at-test.true _ (sym (part_of (line_of c.args.wide) c.args.file.now c.loop-at.at c.read_line.ensures) ∙ c.in-Some.is)) }
 
 pub overflow_add-total : goal.overflow_add-total
-overflow_add-total c = record { fits = omega (arith, c.row_width-total.ensures.1, c.loop-at.invariant.short, law.room _ _ _ _ _ _ _ _ _ c.requires.2 c.loop-at.invariant c.loop-at-test.true _ _ _ (sym (part_of (line_of c.args.wide) c.args.file.now c.loop-at.at c.read_line.ensures) ∙ c.in-Reads.is)) }
+overflow_add-total c = record { fits = omega (arith, c.row_width-total.ensures.1, c.loop-at.invariant.short, law.room _ _ _ _ _ _ _ _ _ c.requires.2 c.loop-at.invariant c.loop-at-test.true _ (sym (part_of (line_of c.args.wide) c.args.file.now c.loop-at.at c.read_line.ensures) ∙ c.in-Some.is)) }
 
 pub overflow_add-at : goal.overflow_add-at
-overflow_add-at c = record { fits = omega (arith, c.requires.2, (law.within _ _ _ _ _ _ _ _ _ c.requires.2 c.loop-at.invariant c.loop-at-test.true _ _ _ (sym (part_of (line_of c.args.wide) c.args.file.now c.loop-at.at c.read_line.ensures) ∙ c.in-Reads.is)).1) }
+overflow_add-at c = record { fits = omega (arith, c.requires.2, (law.within _ _ _ _ _ _ _ _ _ c.requires.2 c.loop-at.invariant c.loop-at-test.true _ (sym (part_of (line_of c.args.wide) c.args.file.now c.loop-at.at c.read_line.ensures) ∙ c.in-Some.is)).1) }
 
 pub loop-at-smaller : goal.loop-at-smaller
-loop-at-smaller c = let w = law.within _ _ _ _ _ _ _ _ _ c.requires.2 c.loop-at.invariant c.loop-at-test.true _ _ _ (sym (part_of (line_of c.args.wide) c.args.file.now c.loop-at.at c.read_line.ensures) ∙ c.in-Reads.is) in omega (arith, w.0, w.1)
+loop-at-smaller c = let w = law.within _ _ _ _ _ _ _ _ _ c.requires.2 c.loop-at.invariant c.loop-at-test.true _ (sym (part_of (line_of c.args.wide) c.args.file.now c.loop-at.at c.read_line.ensures) ∙ c.in-Some.is) in omega (arith, w.0, w.1)
 
 pub loop-at-preserved : goal.loop-at-preserved
-loop-at-preserved c = law.turns _ _ _ _ _ _ _ _ _ c.requires.2 c.loop-at.invariant c.loop-at-test.true _ _ _ (sym (part_of (line_of c.args.wide) c.args.file.now c.loop-at.at c.read_line.ensures) ∙ c.in-Reads.is) _ _ c.step_in-answer.ensures _ _ _ c.slot-v.ensures c.keep.ensures c.row_width-total.ensures
+loop-at-preserved c = law.turns _ _ _ _ _ _ _ _ _ c.requires.2 c.loop-at.invariant c.loop-at-test.true _ (sym (part_of (line_of c.args.wide) c.args.file.now c.loop-at.at c.read_line.ensures) ∙ c.in-Some.is) _ _ c.step_in-answer.ensures _ _ _ c.slot-v.ensures c.keep.ensures c.row_width-total.ensures
 
 pub returns : goal.returns
-returns c = law.ends _ _ _ _ _ _ _ _ _ c.requires.2 c.loop-at.invariant _ c.loop-at-test.false refl refl refl
+returns c = law.ends _ _ _ _ _ _ _ _ _ c.requires.2 c.loop-at.invariant _ c.loop-at-test.false refl refl

@@ -1,7 +1,7 @@
--- `step::queue_in` meets its contract: the plan, and then its effect, which is one of a data queue's.
-use Rattle.tables.specs.Lent.{state_in}
+-- `step::queue_in` meets its contract: the effects of these services are carried out apart.
+use mathlib.Core.Path.{◌∙◌}
 use Rattle.step.proofs.Stepping as law
 use Rattle.step.proofs.queue_in.Goals as goal
 
-pub returns : goal.returns
-returns c = law.queue_stepped (state_in _ _ _ _ _) _ _ _ _ _ (state_in _ _ _ _ _) _ c.queue_plan_in-p.ensures c.carry_queue.ensures c.best.ensures
+pub returns-in-Ok : goal.returns-in-Ok
+returns-in-Ok c = c.answered.ensures ∙ law.queue_stepped c.args.s.now c.args.c c.args.queue c.args.service c.args.run _ _ (rw c.in-Ok.is at c.queue_plan_in.ensures.plan) c.carry_queue.ensures

@@ -1,13 +1,9 @@
--- `sound_parts::record::task_sound` meets its contract: by whether the task is created, and test by test.
+-- `sound_parts::record::task_sound` meets its contract: of a created task test by test.
 -- Rests on Chains.
-use borrow.Author.Tests.{eq-eqb, ne_eqb}
+use borrow.Author.Tests.{ne_eqb}
 use Rattle.model.specs.Test.{is_task_sound}
 use Rattle.sound_parts.proofs.Chains.{eleven}
 use Rattle.sound_parts.proofs.record.task_sound.Goals as goal
-
-pub returns-then-base-eq0 : goal.returns-then-base-eq0
-unfolding is_task_sound
-returns-then-base-eq0 c = rw (c.is_blank.ensures, eq-eqb _ _ c.if-base-eq0.true)
 
 pub returns : goal.returns
 unfolding is_task_sound

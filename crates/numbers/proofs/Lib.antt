@@ -1,4 +1,0 @@
-pub mod Laws
-pub mod Copied
-pub mod Places
-pub mod Same
