@@ -23,7 +23,3 @@ module _ (s : State) (c : Context) (a : Call) (sound : Bool) (f : sound ≡ is_s
   pub answered : (run : ℕ) (r : Answer) → not sound ≡ false → run ≡ best_from 30 1 s.levels → r ≡ step_from run s c a → r ≡ call s c a
   unfolding call
   answered run r g h i = rw (← f, not-false sound g) (i ∙ step_from_lem s run c a h)
-
--- on the state that the tables stood for
-pub whole : (s z : State) (c : Context) (a : Call) (r : Answer) → z ≡ s → r ≡ call z c a → r ≡ call s c a
-whole s z c a r e f = rw (← e) f

@@ -1,1 +1,1 @@
-mod Calling
+pub mod Calling

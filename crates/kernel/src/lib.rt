@@ -5,15 +5,11 @@
 ghost use Rattle.std.specs.Prelude.{◌≡◌};
 ghost use Rattle.model.specs.State.{fresh, running};
 ghost use Rattle.model.specs.Call.{call};
-ghost use Rattle.tables.specs.Lent.{state_in};
 ghost use Rattle.step.specs.Answer.{answer_of};
 
 use model::{Answer, Call, Code, Context, Numbers, Queue, State};
-use numbers::NumberTable;
-use queues::lent::best;
-use queues::{Levels, Waits};
+use rows::best;
 use step::{Stepped, step_in};
-use stored::{Bytes, Words};
 
 // Nothing created, time 0 and no slices.
 pub fn fresh() -> State
@@ -41,28 +37,19 @@ pub fn fresh() -> State
 }
 
 // Who runs in a state: the first task of the best level that is not empty, or 0.
+#[tactic(auto, unfolding(model::specs::State::running))]
 pub fn running(s: State) -> u8
     ensures { result ≡ running s }
 {
-    let qs = s.levels;
-    let mut levels = [0u8; 744];
-    queues::spread_levels(&mut levels, qs);
-    best(&levels)
+    best(&s.levels)
 }
 
-// The checked call on the tables: a state that is not sound gets UNSOUND and task 0, and stays as it was.
-fn call_in(
-    bytes: &mut Bytes,
-    words: &mut Words,
-    levels: &mut Levels,
-    waits: &mut Waits,
-    numbers: &mut NumberTable,
-    c: Context,
-    a: Call,
-) -> Stepped
-    ensures { answer_of result (state_in bytes.new words.new levels.new waits.new numbers.new) ≡ call (state_in bytes.old words.old levels.old waits.old numbers.old) c a }
+// The checked call on a lent state: one that is not sound gets UNSOUND and task 0, and stays as it was.
+#[tactic(auto, using(crate::proofs::Calling::refused, crate::proofs::Calling::answered))]
+fn call_in(s: &mut State, c: Context, a: Call) -> Stepped
+    ensures { answer_of result s.new ≡ call s.old c a }
 {
-    let sound = sound::sound_in(bytes, words, levels, waits, numbers);
+    let sound = sound::sound_in(s);
     if !sound {
         return Stepped {
             code: Code::Unsound,
@@ -70,41 +57,20 @@ fn call_in(
             value: 0,
         };
     }
-    let run = best(levels);
-    step_in(bytes, words, levels, waits, numbers, run, c, a)
+    let run = best(&s.levels);
+    step_in(s, run, c, a)
 }
 
 // Any state, by value.
 pub fn call(s: State, c: Context, a: Call) -> Answer
     ensures { result ≡ call s c a }
 {
-    let mut bytes = [0u8; 300];
-    let mut words = [0u32; 125];
-    let mut levels = [0u8; 744];
-    let mut waits = [0u8; 696];
-    let mut numbers = [0u32; 238];
-    tables::spread(
-        &mut bytes,
-        &mut words,
-        &mut levels,
-        &mut waits,
-        &mut numbers,
-        s,
-    );
-    let r = call_in(
-        &mut bytes,
-        &mut words,
-        &mut levels,
-        &mut waits,
-        &mut numbers,
-        c,
-        a,
-    );
-    let code = r.code;
+    let mut state = s;
+    let r = call_in(&mut state, c, a);
     Answer {
-        code,
+        code: r.code,
         running: r.running,
         value: r.value,
-        state: tables::gather(&bytes, &words, &levels, &waits, &numbers),
+        state,
     }
 }

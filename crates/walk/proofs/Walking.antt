@@ -77,7 +77,7 @@ module _ (wide : Bool) (file : List ℕ) (h : ℕ) (rows : List Row) (at n run :
         go None g = rw (script_fault wide file at (n + 2) more g) at w.faults
         go (Some x) g =
             let r = step_from run s x.context x.call in
-            let p : None ≡ Some (record { answer = stepped_of r; next = at + x.next }) = sym f ∙ ap (λ (u : Turned). u.turn) (rw g at e) in
+            let p : ◌≡◌ {A = Option Turn} None (Some (record { answer = stepped_of r; next = at + x.next })) = sym f ∙ ap (λ (u : Turned). u.turn) (rw g at e) in
             let z : ◌≡◌ {A = ℕ} 0 1 = cc in absurd (omega arith)
 
     -- a line that can: one row more
@@ -111,7 +111,7 @@ module _ (wide : Bool) (file : List ℕ) (h : ℕ) (rows : List Row) (at n run :
       where
         go : (l : Option Line) → line_of wide (drop at file) ≡ l → (at < to) × Walk wide file h (rows ++ (answer_row r ∷ [])) to (n + 1) r.running s'
         go None g =
-            let p : Some (record { answer = r; next = to }) ≡ None = sym f ∙ ap (λ (u : Turned). u.turn) (rw g at e) in
+            let p : ◌≡◌ {A = Option Turn} (Some (record { answer = r; next = to })) None = sym f ∙ ap (λ (u : Turned). u.turn) (rw g at e) in
             let z : ◌≡◌ {A = ℕ} 0 1 = cc in absurd (omega arith)
         go (Some x) g =
             let a = step_from run s x.context x.call in
