@@ -1,5 +1,6 @@
-// The text of an answer's rows. A code is a number from 0 to 13, a row without its call's number is kept as one byte;
-// a row's length is known before it is written, and a row without room is not. Rests on text.
+// The text of an answer's rows. A code is a number from 0 to 13, a row without its call's number is kept as one byte:
+// by hand, since they are the runner's memory of its rows, and it has no heap. A row's length is known before it is written,
+// and a row without room is not. Rests on text.
 #![tactic(auto)]
 
 ghost use Rattle.std.specs.Prelude.{◌≡◌, ◌+◌, ◌≤◌, leb, length};
@@ -31,13 +32,14 @@ pub fn slot(code: Code) -> u8
     }
 }
 
+#[tactic(auto, unfolding(crate::specs::Slots::slot_text))]
 fn slot_width(v: u8) -> usize
     ensures { result ≡ length (slot_text v) }
 {
     if v < 12 {
-        return 1 + width((12 - v) as u32);
+        return 1 + width(u32::from(12 - v));
     }
-    width((v - 12) as u32)
+    width(u32::from(v - 12))
 }
 
 fn put_slot(buf: &mut [u8], at: usize, v: u8) -> usize
@@ -46,26 +48,24 @@ fn put_slot(buf: &mut [u8], at: usize, v: u8) -> usize
 {
     if v < 12 {
         let next = put_byte(buf, at, b'-');
-        return put_decimal(buf, next, (12 - v) as u32);
+        return put_decimal(buf, next, u32::from(12 - v));
     }
-    put_decimal(buf, at, (v - 12) as u32)
+    put_decimal(buf, at, u32::from(v - 12))
 }
 
 // ---- one row of the answer
 pub fn row_width(n: u32, v: u8, running: u8) -> usize
     ensures { (result ≡ length (kept_text n v running)) × (result ≤ 20) }
 {
-    width(n) + slot_width(v) + width(running as u32) + 4
+    width(n) + slot_width(v) + width(u32::from(running)) + 4
 }
 
 // Whether a row has room from the place `at` on, where there are `places`; mostly the longest row has, and none is measured.
+#[tactic(auto, using(crate::proofs::Widths::row_most))]
 fn row_fits(places: usize, at: usize, n: u32, v: u8, running: u8) -> bool
     ensures { result ≡ leb (at + length (kept_text n v running)) places }
 {
-    if has_room(places, at, 20) {
-        return true;
-    }
-    has_room(places, at, row_width(n, v, running))
+    has_room(places, at, 20) || has_room(places, at, row_width(n, v, running))
 }
 
 // The row from the place `at` on, and the place after it; without room nothing is written and the place stays.
@@ -79,7 +79,7 @@ pub fn put_row(buf: &mut [u8], at: usize, n: u32, v: u8, running: u8) -> usize
     let b = put_byte(buf, a, b',');
     let c = put_slot(buf, b, v);
     let d = put_byte(buf, c, b',');
-    let e = put_decimal(buf, d, running as u32);
+    let e = put_decimal(buf, d, u32::from(running));
     let f = put_byte(buf, e, b'\r');
     put_byte(buf, f, b'\n')
 }
@@ -109,13 +109,11 @@ fn base(code: Code) -> u8
 pub fn keep(code: Code, running: u8) -> u8
     ensures { result ≡ kept_of code running }
 {
-    if 24 < running {
-        return base(code) + 24;
-    }
-    base(code) + running
+    base(code) + running.min(24)
 }
 
 // The code that was kept.
+#[tactic(auto, unfolding(crate::specs::Slots::slot_in))]
 pub fn slot_kept(k: u8) -> u8
     ensures { result ≡ slot_in k }
 {

@@ -16,7 +16,7 @@ returns-then-v-lt12 c =
     let under = lt-ltb _ _ c.if-v-lt12.true in
     let h : a.at + length (bytes "-" ++ decimal (12 - a.v)) ≤ length a.buf.now = rw under at c.requires in
     let p = law.then _ _ (bytes "-") (decimal (12 - a.v)) _ _ _ _ h c.put_byte-next.ensures.0 c.put_byte-next.ensures.1
-    (λ g. law.placed _ _ _ _ _ g c.put_decimal.ensures.0 c.put_decimal.ensures.1) in
+    (λ g. law.placed _ _ _ _ _ g (rw c.from.ensures at c.put_decimal.ensures.0) (rw c.from.ensures at c.put_decimal.ensures.1)) in
     rw under (p.place, p.stores)
 
 pub returns : goal.returns
@@ -25,5 +25,5 @@ returns c =
     let a = c.args in
     let over = le-ltb _ _ c.if-v-lt12.false in
     let h : a.at + length (decimal (a.v - 12)) ≤ length a.buf.now = rw over at c.requires in
-    let p = law.placed _ _ _ _ _ h c.put_decimal-2.ensures.0 c.put_decimal-2.ensures.1 in
+    let p = law.placed _ _ _ _ _ h (rw c.from-2.ensures at c.put_decimal-2.ensures.0) (rw c.from-2.ensures at c.put_decimal-2.ensures.1) in
     rw over (p.place, p.stores)

@@ -17,7 +17,7 @@ overflow_add-result c =
 sum : (c : After-width-2) → let a = c.args in (c.width.result + c.slot_width.result + c.width-2.result + 4 ≡ length (kept_text a.n a.v a.running)) × (length (kept_text a.n a.v a.running) ≤ 20)
 sum c =
     let a = c.args in
-    (rw (row_width a.n a.v a.running, ← c.width-2.ensures, ← c.slot_width.ensures, ← c.width.ensures), row_most a.n a.v a.running (omega arith) (omega arith) (omega arith))
+    (rw (row_width a.n a.v a.running, ← (rw c.from.ensures at c.width-2.ensures), ← c.slot_width.ensures, ← c.width.ensures), row_most a.n a.v a.running (omega arith) (omega arith) (omega arith))
 
 pub overflow_add-result-2 : goal.overflow_add-result-2
 overflow_add-result-2 c = record { fits = omega (arith, (sum c).0, (sum c).1) }
