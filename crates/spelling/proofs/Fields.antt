@@ -9,8 +9,8 @@ use lib.Dec.{eqb}
 use lib.ListN.{length, get_or, drop}
 use lib.Seq.{drop-drop}
 use borrow.Author.Tests.{eq-eqb, eqb-true}
+use Rattle.std.specs.Prelude.{Option, Some, None, IfSome}
 use Rattle.text.specs.declared.number.Number.{Number}
-use Rattle.text.specs.declared.number.Number.TheVariants.{Digits, NoNumber}
 use Rattle.text.specs.Number.{is_digit, digits, value_after, numeral, number_of}
 use Rattle.text.specs.Bytes.{bytes, begins}
 use Rattle.text.proofs.Begins.{begins_at}
@@ -19,40 +19,47 @@ use Rattle.model.specs.Task.{endless}
 use Rattle.services.specs.declared.takes.Takes.{Takes}
 use Rattle.services.specs.declared.takes.Takes.TheVariants.{Blank, Plain, Timeout}
 use Rattle.lines.specs.declared.fields.Said.{Said}
-use Rattle.lines.specs.declared.fields.Said.TheVariants.{Forever, Unsaid}
-use Rattle.lines.specs.declared.fields.End.{End}
-use Rattle.lines.specs.declared.fields.End.TheVariants.{Closes, NoEnd}
-use Rattle.lines.specs.Fields.{word as forever, number_or, said_of, meant, field_of, number_then, comma_field, end_of, end_then, last_field}
+use Rattle.lines.specs.declared.fields.Said.TheVariants.{Forever}
+use Rattle.lines.specs.Fields.{and_then, word as forever, number_or, said_of, meant, field_of, comma_field, end_of, last_field}
+use Rattle.lines.proofs.Within.{then_by}
 use Rattle.spelling.specs.Statement.{in_digits, Spelled, done, same, word}
-use Rattle.spelling.proofs.Spelled.{NoWord, head_same, tail_same, empty_same, clean, begins_same, begins_rest, digits_same, number_same, number_counted, Reads, at_drop, not_empty}
+use Rattle.spelling.proofs.Spelled.{NoWord, head_same, tail_same, empty_same, clean, begins_same, begins_rest, digits_same, number_same, number_counted, Reads, both_read, at_drop, not_empty}
 
 -- ---- what may end a field
 abbrev pub Stops : ℕ → Type 0
 Stops b = (b ≡ 102 → ⊥) × (is_digit b ≡ false)
 
 -- ---- a number, and the word
-number_on : {s t : List ℕ} → Spelled s t → (v n : ℕ) → number_of s ≡ Digits v n → Stops (get_or s n 0) → (number_of t ≡ Digits v n) × Spelled (drop n s) (drop n t)
-number_on {s} {t} p v n e stop =
-    let q : n ≡ length (digits s) = rw e at (number_counted s) in
+number_on : {s t : List ℕ} → Spelled s t → (x : Number) → number_of s ≡ Some x → Stops (get_or s x.next 0) → (number_of t ≡ Some x) × Spelled (drop x.next s) (drop x.next t)
+number_on {s} {t} p x e stop =
+    let q : x.next ≡ length (digits s) = rw e at (number_counted s) in
     let clear : get_or s (length (digits s)) 0 ≡ 102 → ⊥ = rw q at stop.0 in
     (number_same p clear ∙ e, rw (← q) at (digits_same p clear).1)
 
 -- digits that a stop follows are the endless wait
-spelled_out : (t : List ℕ) → is_digit (get_or t 0 0) ≡ false → number_of (in_digits ++ t) ≡ Digits endless 10
+spelled_out : (t : List ℕ) → is_digit (get_or t 0 0) ≡ false → number_of (in_digits ++ t) ≡ Some (record { value = endless; next = 10 })
 unfolding number_of numeral digits is_digit value_after
 spelled_out [] h = refl
 spelled_out (b ∷ t) h = rw h
 
-word_unread : (s : List ℕ) → number_of (102 ∷ s) ≡ NoNumber
+word_unread : (s : List ℕ) → number_of (102 ∷ s) ≡ None
 unfolding number_of numeral digits is_digit value_after
 word_unread s = refl
 
-word_said : (s : List ℕ) → begins s (bytes "orever") ≡ true → said_of (102 ∷ s) ≡ Forever 7
+word_said : (s : List ℕ) → begins s (bytes "orever") ≡ true → said_of (102 ∷ s) ≡ Some (Forever 7)
 unfolding said_of begins
 word_said s e = rw (word_unread s, e)
 
+-- what is said of s, where that is taken
+abbrev said_in : Takes → List ℕ → Option Number
+said_in takes s = and_then (said_of s) (λ w. meant w takes)
+
+-- the number x, of n bytes
+abbrev pub of : Number → ℕ → Option Number
+of x n = Some (record { value = x.value; next = n })
+
 abbrev Ticks : List ℕ → List ℕ → Type 0
-Ticks rest t = Reads (Digits endless) (meant (said_of t) Timeout) rest t
+Ticks rest t = Reads (λ n. Some (record { value = endless; next = n })) (said_in Timeout t) rest t
 
 word_on : {s t : List ℕ} → Spelled s t → begins s forever ≡ true → Stops (get_or s 7 0) → Ticks (drop 7 s) t
 unfolding begins said_of clean
@@ -62,7 +69,7 @@ word_on (same {s} {t} b p) e stop = go (eqb b 102) refl e
     go : (x : Bool) → eqb b 102 ≡ x → cond x (begins s (bytes "orever")) false ≡ true → Ticks (drop 6 s) (b ∷ t)
     go true q e =
         rw (eqb-true b 102 q)
-        (record { next = 7; reads = ap (λ (x : Said). meant x Timeout) (word_said t (begins_same (bytes "orever") tt p ∙ e)); follows = begins_rest (bytes "orever") tt p e })
+        (record { next = 7; reads = rw (word_said t (begins_same (bytes "orever") tt p ∙ e)); follows = begins_rest (bytes "orever") tt p e })
     go false q e = absurd (false≢true e)
 word_on (word {s} {t} p) e stop =
     record {
@@ -72,23 +79,22 @@ word_on (word {s} {t} p) e stop =
     }
 
 -- ---- a field, by what is taken there
-abbrev FieldOn : Number → Number → List ℕ → List ℕ → Type 0
-FieldOn (Digits v n) r s t = Stops (get_or s n 0) → Reads (Digits v) r (drop n s) t
-FieldOn NoNumber r s t = Unit
+abbrev FieldOn : Option Number → Option Number → List ℕ → List ℕ → Type 0
+FieldOn o r s t = IfSome o (λ x. Stops (get_or s x.next 0) → Reads (of x) r (drop x.next s) t)
 
-said_on : {s t : List ℕ} (takes : Takes) → Spelled s t → FieldOn (meant (said_of s) takes) (meant (said_of t) takes) s t
+said_on : {s t : List ℕ} (takes : Takes) → Spelled s t → FieldOn (said_in takes s) (said_in takes t) s t
 unfolding said_of
 said_on {s} {t} takes p = go (number_of s) refl
   where
-    worded : (takes : Takes) → begins s forever ≡ true → FieldOn (meant (Forever (length forever)) takes) (meant (said_of t) takes) s t
+    worded : (takes : Takes) → begins s forever ≡ true → FieldOn (meant (Forever (length forever)) takes) (said_in takes t) s t
     worded Blank q = tt
     worded Plain q = tt
     worded Timeout q = λ stop. word_on p q stop
 
-    go : (r : Number) → number_of s ≡ r
-        → FieldOn (meant (number_or r (cond (begins s forever) (Forever (length forever)) Unsaid)) takes) (meant (number_or (number_of t) (cond (begins t forever) (Forever (length forever)) Unsaid)) takes) s t
-    go (Digits v n) e = λ stop. let x = number_on p v n e stop in record { next = n; reads = rw x.0; follows = x.1 }
-    go NoNumber e = cond_by (λ (x : Said). FieldOn (meant x takes) (meant (said_of t) takes) s t) (begins s forever) (Forever (length forever)) Unsaid (worded takes) tt
+    go : (o : Option Number) → number_of s ≡ o
+        → FieldOn (and_then (number_or o (cond (begins s forever) (Some (Forever (length forever))) None)) (λ w. meant w takes)) (said_in takes t) s t
+    go (Some x) e = λ stop. let y = number_on p x e stop in record { next = x.next; reads = rw y.0; follows = y.1 }
+    go None e = cond_by (λ (o : Option Said). FieldOn (and_then o (λ w. meant w takes)) (said_in takes t) s t) (begins s forever) (Some (Forever (length forever))) None (worded takes) tt
 
 field_on : {s t : List ℕ} (takes : Takes) → Spelled s t → FieldOn (field_of takes s) (field_of takes t) s t
 unfolding field_of
@@ -97,9 +103,8 @@ field_on Plain p = said_on Plain p
 field_on Timeout p = said_on Timeout p
 
 -- ---- with the comma after it
-abbrev pub On : Number → Number → List ℕ → List ℕ → Type 0
-On (Digits v n) r s t = Reads (Digits v) r (drop n s) t
-On NoNumber r s t = Unit
+abbrev pub On : Option Number → Option Number → List ℕ → List ℕ → Type 0
+On o r s t = IfSome o (λ x. Reads (of x) r (drop x.next s) t)
 
 comma_stops : (b : ℕ) → b ≡ 44 → Stops b
 unfolding is_digit
@@ -107,39 +112,32 @@ comma_stops b e = (λ q. omega (arith, e, q), rw e)
 
 pub comma_on : {s t : List ℕ} (takes : Takes) → Spelled s t → On (comma_field takes s) (comma_field takes t) s t
 unfolding comma_field
-comma_on {s} {t} takes p = go (field_of takes s) (field_on takes p)
+comma_on {s} {t} takes p =
+    then_by _ (field_of takes s) _ (field_on takes p) (λ x f.
+    cond_by (λ (o : Option Number). On o (comma_field takes t) s t) (eqb (get_or s x.next 0) 44) (of x (x.next + 1)) None
+    (λ q. let e = eqb-true (get_or s x.next 0) 44 q in made x e (f (comma_stops (get_or s x.next 0) e))) tt)
   where
-    made : (v n : ℕ) → get_or s n 0 ≡ 44 → Reads (Digits v) (field_of takes t) (drop n s) t
-        → Reads (Digits v) (number_then (field_of takes t) (λ v n. cond (eqb (get_or t n 0) 44) (Digits v (n + 1)) NoNumber)) (drop (n + 1) s) t
-    made v n e x =
-        let at : get_or (drop n s) 0 0 ≡ 44 = at_drop n s ∙ e in
-        let clear : NoWord (drop n s) = λ q. omega (arith, at, q) in
-        let byte : get_or t x.next 0 ≡ 44 = sym (at_drop x.next t) ∙ head_same x.follows clear ∙ at in
+    made : (x : Number) → get_or s x.next 0 ≡ 44 → Reads (of x) (field_of takes t) (drop x.next s) t → Reads (of x) (comma_field takes t) (drop (x.next + 1) s) t
+    made x e y =
+        let at : get_or (drop x.next s) 0 0 ≡ 44 = at_drop x.next s ∙ e in
+        let clear : NoWord (drop x.next s) = λ q. omega (arith, at, q) in
+        let byte : get_or t y.next 0 ≡ 44 = sym (at_drop y.next t) ∙ head_same y.follows clear ∙ at in
         record {
-          next = x.next + 1;
-          reads = simp x.reads (simp (eq-eqb _ 44 byte));
-          follows = rw (drop-drop 1 n s, drop-drop 1 x.next t) at (tail_same x.follows clear);
+          next = y.next + 1;
+          reads = simp y.reads (simp (eq-eqb _ 44 byte));
+          follows = rw (drop-drop 1 x.next s, drop-drop 1 y.next t) at (tail_same y.follows clear);
         }
-
-    go : (r : Number) → FieldOn r (field_of takes t) s t
-        → On (number_then r (λ v n. cond (eqb (get_or s n 0) 44) (Digits v (n + 1)) NoNumber)) (number_then (field_of takes t) (λ v n. cond (eqb (get_or t n 0) 44) (Digits v (n + 1)) NoNumber)) s t
-    go (Digits v n) f =
-        cond_by (λ (x : Number). On x (number_then (field_of takes t) (λ v n. cond (eqb (get_or t n 0) 44) (Digits v (n + 1)) NoNumber)) s t) (eqb (get_or s n 0) 44) (Digits v (n + 1)) NoNumber
-        (λ q. let e = eqb-true (get_or s n 0) 44 q in made v n e (f (comma_stops (get_or s n 0) e))) tt
-    go NoNumber f = tt
 
 -- ---- with the line end after it
 pub end_same : {s t : List ℕ} → Spelled s t → end_of t ≡ end_of s
 unfolding end_of clean
 end_same p = rw (empty_same p, begins_same (bytes "\n") tt p, begins_same (bytes "\r\n") tt p)
 
-abbrev EndStops : End → List ℕ → Type 0
-EndStops (Closes k) s = Stops (get_or s 0 0)
-EndStops NoEnd s = Unit
+abbrev EndStops : Option ℕ → List ℕ → Type 0
+EndStops o s = IfSome o (λ k. Stops (get_or s 0 0))
 
-abbrev pub EndOn : End → List ℕ → List ℕ → Type 0
-EndOn (Closes k) s t = Spelled (drop k s) (drop k t)
-EndOn NoEnd s t = Unit
+abbrev pub EndOn : Option ℕ → List ℕ → List ℕ → Type 0
+EndOn o s t = IfSome o (λ k. Spelled (drop k s) (drop k t))
 
 empty_stops : (s : List ℕ) → eqb (length s) 0 ≡ true → Stops (get_or s 0 0)
 unfolding is_digit
@@ -152,37 +150,32 @@ byte_stops s u b e stop = rw (begins_at s (b ∷ u) e 0 (omega arith)) stop
 end_stops : (s : List ℕ) → EndStops (end_of s) s
 unfolding end_of is_digit
 end_stops s =
-    let P : End → Type 0 = λ (x : End). EndStops x s in
-    cond_by P (eqb (length s) 0) (Closes 0) _ (λ e. empty_stops s e)
-    (cond_by P (begins s (bytes "\n")) (Closes 1) _ (λ e. byte_stops s [] 10 e ((λ q. omega (arith, q)), refl))
-    (cond_by P (begins s (bytes "\r\n")) (Closes 2) NoEnd (λ e. byte_stops s (bytes "\n") 13 e ((λ q. omega (arith, q)), refl)) tt))
+    let P : Option ℕ → Type 0 = λ (o : Option ℕ). EndStops o s in
+    cond_by P (eqb (length s) 0) (Some 0) _ (λ e. empty_stops s e)
+    (cond_by P (begins s (bytes "\n")) (Some 1) _ (λ e. byte_stops s [] 10 e ((λ q. omega (arith, q)), refl))
+    (cond_by P (begins s (bytes "\r\n")) (Some 2) None (λ e. byte_stops s (bytes "\n") 13 e ((λ q. omega (arith, q)), refl)) tt))
 
 pub end_on : {s t : List ℕ} → Spelled s t → EndOn (end_of s) s t
 unfolding end_of clean
 end_on {s} {t} p =
-    let P : End → Type 0 = λ (x : End). EndOn x s t in
-    cond_by P (eqb (length s) 0) (Closes 0) _ (λ _. p)
-    (cond_by P (begins s (bytes "\n")) (Closes 1) _ (λ e. begins_rest (bytes "\n") tt p e)
-    (cond_by P (begins s (bytes "\r\n")) (Closes 2) NoEnd (λ e. begins_rest (bytes "\r\n") tt p e) tt))
+    let P : Option ℕ → Type 0 = λ (o : Option ℕ). EndOn o s t in
+    cond_by P (eqb (length s) 0) (Some 0) _ (λ _. p)
+    (cond_by P (begins s (bytes "\n")) (Some 1) _ (λ e. begins_rest (bytes "\n") tt p e)
+    (cond_by P (begins s (bytes "\r\n")) (Some 2) None (λ e. begins_rest (bytes "\r\n") tt p e) tt))
 
 pub last_on : {s t : List ℕ} (takes : Takes) → Spelled s t → On (last_field takes s) (last_field takes t) s t
 unfolding last_field
-last_on {s} {t} takes p = go (field_of takes s) (field_on takes p)
+last_on {s} {t} takes p =
+    then_by _ (field_of takes s) _ (field_on takes p) (λ x f.
+    then_by _ (end_of (drop x.next s)) _ (both_read _ (end_of (drop x.next s)) (end_of (drop x.next s)) refl (end_stops (drop x.next s))) (λ k e.
+    made x f k e.0 e.1))
   where
-    Wanted : Number → Type 0
-    Wanted x = On x (number_then (field_of takes t) (λ v n. end_then (end_of (drop n t)) (λ k. Digits v (n + k)))) s t
-
-    made : (v n : ℕ) → (Stops (get_or s n 0) → Reads (Digits v) (field_of takes t) (drop n s) t)
-        → (x : End) → end_of (drop n s) ≡ x → EndStops x (drop n s) → Wanted (end_then x (λ k. Digits v (n + k)))
-    made v n f (Closes k) e stop =
-        let x = f (rw (at_drop n s) at stop) in
+    made : (x : Number) → (Stops (get_or s x.next 0) → Reads (of x) (field_of takes t) (drop x.next s) t)
+        → (k : ℕ) → end_of (drop x.next s) ≡ Some k → Stops (get_or (drop x.next s) 0 0) → Reads (of x) (last_field takes t) (drop (x.next + k) s) t
+    made x f k e stop =
+        let y = f (rw (at_drop x.next s) at stop) in
         record {
-          next = x.next + k;
-          reads = simp x.reads (simp (end_same x.follows ∙ e));
-          follows = rw (drop-drop k n s, drop-drop k x.next t) at (rw e at (end_on x.follows));
+          next = y.next + k;
+          reads = simp y.reads (simp (end_same y.follows ∙ e));
+          follows = rw (drop-drop k x.next s, drop-drop k y.next t) at (rw e at (end_on y.follows));
         }
-    made v n f NoEnd e stop = tt
-
-    go : (r : Number) → FieldOn r (field_of takes t) s t → Wanted (number_then r (λ v n. end_then (end_of (drop n s)) (λ k. Digits v (n + k))))
-    go (Digits v n) f = made v n f (end_of (drop n s)) refl (end_stops (drop n s))
-    go NoNumber f = tt

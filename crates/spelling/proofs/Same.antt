@@ -8,18 +8,14 @@ use native.Mathlib.Omega.{arith}
 use native.Mathlib.Decide.{dec_lt}
 use lib.ListN.{length, drop, length-drop}
 use borrow.Author.Tests.{le-ltb}
-use Rattle.model.specs.declared.Context.{Context}
-use Rattle.model.specs.declared.Call.{Call}
+use Rattle.std.specs.Prelude.{Option, Some, None, Result, Ok, Err}
 use Rattle.lines.specs.declared.line.Line.{Line}
-use Rattle.lines.specs.declared.line.Line.TheVariants.{Reads as Read, Unreadable as NoLine}
 use Rattle.lines.specs.declared.line.Header.{Header}
-use Rattle.lines.specs.declared.line.Header.TheVariants.{Ends, NoHeader}
 use Rattle.lines.specs.Lines.{line_of, header_of}
 use Rattle.lines.proofs.Within.{LineIn, line_in}
 use Rattle.walk.specs.Script.{next, script_in, header_then, script_of, fault_of}
 use Rattle.walk.proofs.Scripts.{script_drop, script_fault, script_next}
-use Rattle.runner.specs.declared.Ran.{Ran}
-use Rattle.runner.specs.declared.Ran.TheVariants.{Wrote, TooLong, Unreadable, Short}
+use Rattle.runner.specs.declared.Refusal.{Refusal}
 use Rattle.runner.specs.Outcome.{ran_of, buffer_of}
 use Rattle.spelling.specs.Statement.{Spelled, done, same, word, SameCalls, SameAnswer}
 use Rattle.spelling.proofs.Lines.{LineOn, line_on, HeaderOn, header_on}
@@ -38,27 +34,27 @@ none_same (word p) e = absurd (omega (arith, e))
 -- ---- the lines after the header
 module _ (wide : Bool) where
   -- a script from its first line on
-  line_first : (s : List ℕ) (l : ℕ) (x : Context) (c : Call) (n : ℕ) → 0 < length s → LineIn (line_of wide s) (length s) → line_of wide s ≡ Read x c n
-      → script_in wide 0 s l ≡ next x c (script_in wide 0 (drop n s) (l + 1))
-  line_first s l x c n h inside e =
-      let q : 0 + n ≡ n = omega arith in
-      script_next wide s 0 l x c n h (rw e at inside).0 e ∙ ap (λ (k : ℕ). next x c (script_in wide 0 (drop k s) (l + 1))) q
+  line_first : (s : List ℕ) (l : ℕ) (x : Line) → 0 < length s → LineIn (line_of wide s) (length s) → line_of wide s ≡ Some x
+      → script_in wide 0 s l ≡ next x.context x.call (script_in wide 0 (drop x.next s) (l + 1))
+  line_first s l x h inside e =
+      let q : 0 + x.next ≡ x.next = omega arith in
+      script_next wide s 0 l x h (rw e at inside).0 e ∙ ap (λ (k : ℕ). next x.context x.call (script_in wide 0 (drop k s) (l + 1))) q
 
   lines_same : (most : ℕ) (s t : List ℕ) (l : ℕ) → length s ≤ most → 0 < l → Spelled s t → fault_of (script_in wide 0 s l) ≡ 0 → script_in wide 0 t l ≡ script_in wide 0 s l
   unfolding fault_of
   lines_same zero s t l h g p e = ap (λ (x : List ℕ). script_in wide 0 x l) (none_same p (omega arith))
   lines_same (suc most) s t l h g p e = by (dec_lt 0 (length s)) (λ s t h p e. lines_same most s t (l + 1) h (omega arith) p e)
     where
-      go : 0 < length s → (x : Line) → line_of wide s ≡ x → LineOn x (line_of wide t) s t → LineIn x (length s)
+      go : 0 < length s → (o : Option Line) → line_of wide s ≡ o → LineOn o (line_of wide t) s t → LineIn o (length s)
           → ((s t : List ℕ) → length s ≤ most → Spelled s t → fault_of (script_in wide 0 s (l + 1)) ≡ 0 → script_in wide 0 t (l + 1) ≡ script_in wide 0 s (l + 1))
           → script_in wide 0 t l ≡ script_in wide 0 s l
-      go some (Read x c n) q y inside ih =
-          let here = line_first s l x c n some (line_in wide s) q in
-          let there = line_first t l x c y.next (omega (arith, longer p)) (line_in wide t) y.reads in
+      go some (Some x) q y inside ih =
+          let here = line_first s l x some (line_in wide s) q in
+          let there = line_first t l (record x { next = y.next }) (omega (arith, longer p)) (line_in wide t) y.reads in
           there
-          ∙ ap (next x c) (ih (drop n s) (drop y.next t) (simp length-drop (omega (arith, inside.0))) y.follows (rw here at e))
+          ∙ ap (next x.context x.call) (ih (drop x.next s) (drop y.next t) (simp length-drop (omega (arith, inside.0))) y.follows (rw here at e))
           ∙ sym here
-      go some NoLine q y inside ih = absurd (omega (arith, g, rw (script_fault wide s 0 l some q) at e))
+      go some None q y inside ih = absurd (omega (arith, g, rw (script_fault wide s 0 l some q) at e))
 
       by : Dec (0 < length s)
           → ((s t : List ℕ) → length s ≤ most → Spelled s t → fault_of (script_in wide 0 s (l + 1)) ≡ 0 → script_in wide 0 t (l + 1) ≡ script_in wide 0 s (l + 1))
@@ -71,21 +67,20 @@ pub same_calls : SameCalls
 unfolding script_of fault_of
 same_calls s t p = go (header_of s) refl (header_on p).1
   where
-    go : (x : Header) → header_of s ≡ x → HeaderOn x s t → fault_of (header_then x (λ wide h. script_in wide h s 2)) ≡ 0
-        → header_then (header_of t) (λ wide h. script_in wide h t 2) ≡ header_then x (λ wide h. script_in wide h s 2)
-    go (Ends wide h) q y e =
+    go : (o : Option Header) → header_of s ≡ o → HeaderOn o s t → fault_of (header_then o (λ wide h. script_in wide h s 2)) ≡ 0
+        → header_then (header_of t) (λ wide h. script_in wide h t 2) ≡ header_then o (λ wide h. script_in wide h s 2)
+    go (Some x) q y e =
+        let h = x.next in
         rw ((header_on p).0 ∙ q)
-        (script_drop wide h t 2
-        ∙ lines_same wide (length (drop h s)) (drop h s) (drop h t) 2 (omega arith) (omega arith) y (rw (script_drop wide h s 2) at e)
-        ∙ sym (script_drop wide h s 2))
-    go NoHeader q y e = absurd (omega (arith, e))
+        (script_drop x.wide h t 2
+        ∙ lines_same x.wide (length (drop h s)) (drop h s) (drop h t) 2 (omega arith) (omega arith) y (rw (script_drop x.wide h s 2) at e)
+        ∙ sym (script_drop x.wide h s 2))
+    go None q y e = absurd (omega (arith, e))
 
 -- ---- the outcome
-buffer_same : (r : Ran) (s t b : List ℕ) → script_of t ≡ script_of s → buffer_of r t b ≡ buffer_of r s b
-buffer_same (Wrote n) s t b e = rw e
-buffer_same TooLong s t b e = refl
-buffer_same Short s t b e = refl
-buffer_same (Unreadable l) s t b e = refl
+buffer_same : (r : Result ℕ Refusal) (s t b : List ℕ) → script_of t ≡ script_of s → buffer_of r t b ≡ buffer_of r s b
+buffer_same (Ok n) s t b e = rw e
+buffer_same (Err e) s t b q = refl
 
 pub same_answer : SameAnswer
 unfolding ran_of

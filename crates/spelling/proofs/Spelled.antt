@@ -9,8 +9,8 @@ use lib.Dec.{T as So, leb, eqb}
 use lib.ListN.{length, get_or, drop}
 use lib.Seq.{drop-drop, get_or-drop}
 use borrow.Author.Tests.{ne_eqb}
+use Rattle.std.specs.Prelude.{Option, Some, None, IfSome}
 use Rattle.text.specs.declared.number.Number.{Number}
-use Rattle.text.specs.declared.number.Number.TheVariants.{Digits, NoNumber}
 use Rattle.text.specs.Number.{is_digit, digits, value_after, numeral, number_of}
 use Rattle.text.specs.Bytes.{bytes, begins}
 use Rattle.text.proofs.Reading.{cond_by}
@@ -98,26 +98,31 @@ unfolding number_of
 number_same p h = rw ((digits_same p h).0, first_same p h)
 
 -- a number has as many bytes as its digits are
-abbrev pub Counted : Number → ℕ → Type 0
-Counted (Digits v n) l = n ≡ l
-Counted NoNumber l = Unit
+abbrev pub Counted : Option Number → ℕ → Type 0
+Counted o l = IfSome o (λ x. x.next ≡ l)
 
 pub number_counted : (s : List ℕ) → Counted (number_of s) (length (digits s))
 unfolding number_of numeral
 number_counted s =
     let v = value_after 0 (digits s) in
     let n = length (digits s) in
-    let P : Number → Type 0 = λ (x : Number). Counted x n in
-    cond_by P (leb v 4294967295) _ NoNumber (λ _.
-    cond_by P (eqb n 0) NoNumber _ (λ _. tt)
-    (cond_by P (eqb n 1) (Digits v n) _ (λ _. refl)
-    (cond_by P (eqb (get_or s 0 0) 48) NoNumber (Digits v n) (λ _. tt) refl))) tt
+    let x : Number = record { value = v; next = n } in
+    let P : Option Number → Type 0 = λ (o : Option Number). Counted o n in
+    cond_by P (leb v 4294967295) _ None (λ _.
+    cond_by P (eqb n 0) None _ (λ _. tt)
+    (cond_by P (eqb n 1) (Some x) _ (λ _. refl)
+    (cond_by P (eqb (get_or s 0 0) 48) None (Some x) (λ _. tt) refl))) tt
 
 -- ---- what the one reads, the other reads too, and what follows is spelled alike
 pub record Reads {A : Type 0} (make : ℕ → A) (r : A) (rest t : List ℕ) : Type 0 where
   pub next : ℕ
   pub reads : r ≡ make next
   pub follows : Spelled rest (drop next t)
+
+-- the same is read in both
+pub both_read : {A : Type 0} (P : A → Type 0) (o r : Option A) → r ≡ o → IfSome o P → IfSome o (λ x. (r ≡ Some x) × P x)
+both_read P (Some x) r e h = (e, h)
+both_read P None r e h = tt
 
 -- the first byte after n is the n-th
 pub at_drop : (n : ℕ) (s : List ℕ) → get_or (drop n s) 0 0 ≡ get_or s n 0
