@@ -1,17 +1,14 @@
 -- The table of public functions, from one record to the kernel: a row cites a function's contract, that the function keeps it, and the law by which it is tight.
 -- Rests on the generated modules of the crates named below, and on Laws.
-use mathlib.Core.Path.{refl}
 use mathlib.Core.List.{List, [], ◌∷◌}
 use Rattle.records.specs.contracts as records
 use Rattle.records.proofs as kept_records
 use Rattle.rows.specs.contracts as rows
 use Rattle.rows.proofs as kept_rows
-use Rattle.queues.specs.contracts as queues
-use Rattle.queues.proofs as kept_queues
+use Rattle.places.specs.contracts as places
+use Rattle.places.proofs as kept_places
 use Rattle.stored.specs.contracts as stored
 use Rattle.stored.proofs as kept_stored
-use Rattle.numbers.specs.contracts as numbers
-use Rattle.numbers.proofs as kept_numbers
 use Rattle.tables.specs.contracts as tables
 use Rattle.tables.proofs as kept_tables
 use Rattle.checks.specs.contracts as checks
@@ -41,8 +38,7 @@ use Rattle.step.proofs as kept_step
 use Rattle.kernel.specs.contracts as kernel
 use Rattle.kernel.proofs as kept_kernel
 use Rattle.promises.specs.Tight.{Promise}
-use Rattle.promises.proofs.Laws as laws
-use Rattle.promises.proofs.Laws.{of, typed, plain, given, result, buffer, words, five, four, charged}
+use Rattle.promises.proofs.Laws.{of, plain, result, decided, buffer, answers}
 
 pub of_records : List Promise
 of_records =
@@ -73,70 +69,35 @@ of_records =
 
 pub of_rows : List Promise
 of_rows =
+    of rows.row_at.signature (λ M 𝓤 𝓛. rows.row_at.clauses 𝓛) _ (λ M. kept_rows.row_at.Met.met) (λ w κs a g h o p. plain w result) ∷
     of rows.first_of.signature (λ M 𝓤 𝓛. rows.first_of.clauses 𝓛) _ (λ M. kept_rows.first_of.Met.met) (λ w κs a g h o p. plain w result) ∷
-    of rows.turn_row.signature (λ M 𝓤 𝓛. rows.turn_row.clauses 𝓛) _ (λ M. kept_rows.turn_row.Met.met) (λ w κs a g h o p. plain w buffer) ∷
+    of rows.second_of.signature (λ M 𝓤 𝓛. rows.second_of.clauses 𝓛) _ (λ M. kept_rows.second_of.Met.met) (λ w κs a g h o p. plain w result) ∷
     of rows.relist.signature (λ M 𝓤 𝓛. rows.relist.clauses 𝓛) _ (λ M. kept_rows.relist.Met.met) (λ w κs a g h o p. plain w buffer) ∷
+    of rows.turn_row.signature (λ M 𝓤 𝓛. rows.turn_row.clauses 𝓛) _ (λ M. kept_rows.turn_row.Met.met) (λ w κs a g h o p. plain w buffer) ∷
     of rows.best.signature (λ M 𝓤 𝓛. rows.best.clauses 𝓛) _ (λ M. kept_rows.best.Met.met) (λ w κs a g h o p. plain w result) ∷
     []
 
-pub of_queues : List Promise
-of_queues =
-    typed queues.spread_levels.signature (λ M 𝓤 𝓛. queues.spread_levels.clauses 𝓛) _ (λ M. kept_queues.spread_levels.Met.met) (λ w κs a g h o p. given w (λ i j. laws.queues 31 i j)) ∷
-    of queues.gather_levels.signature (λ M 𝓤 𝓛. queues.gather_levels.clauses 𝓛) _ (λ M. kept_queues.gather_levels.Met.met) (λ w κs a g h o p. plain w result) ∷
-    typed queues.spread_waits.signature (λ M 𝓤 𝓛. queues.spread_waits.clauses 𝓛) _ (λ M. kept_queues.spread_waits.Met.met) (λ w κs a g h o p. given w (λ i j. laws.queues 29 i j)) ∷
-    of queues.gather_waits.signature (λ M 𝓤 𝓛. queues.gather_waits.clauses 𝓛) _ (λ M. kept_queues.gather_waits.Met.met) (λ w κs a g h o p. plain w result) ∷
-    of queues.lent.best.signature (λ M 𝓤 𝓛. queues.lent.best.clauses 𝓛) _ (λ M. kept_queues.lent.best.Met.met) (λ w κs a g h o p. plain w result) ∷
-    typed queues.lent.relist_levels.signature (λ M 𝓤 𝓛. queues.lent.relist_levels.clauses 𝓛) _ (λ M. kept_queues.lent.relist_levels.Met.met) (λ w κs a g h o p. given w (λ i j. laws.queues 31 i j)) ∷
-    typed queues.lent.turn_level.signature (λ M 𝓤 𝓛. queues.lent.turn_level.clauses 𝓛) _ (λ M. kept_queues.lent.turn_level.Met.met) (λ w κs a g h o p. given w (λ i j. laws.queues 31 i j)) ∷
-    of queues.lent.first_of_level.signature (λ M 𝓤 𝓛. queues.lent.first_of_level.clauses 𝓛) _ (λ M. kept_queues.lent.first_of_level.Met.met) (λ w κs a g h o p. plain w result) ∷
-    of queues.lent.second_of_level.signature (λ M 𝓤 𝓛. queues.lent.second_of_level.clauses 𝓛) _ (λ M. kept_queues.lent.second_of_level.Met.met) (λ w κs a g h o p. plain w result) ∷
-    of queues.lent.first_waiter.signature (λ M 𝓤 𝓛. queues.lent.first_waiter.clauses 𝓛) _ (λ M. kept_queues.lent.first_waiter.Met.met) (λ w κs a g h o p. plain w result) ∷
-    typed queues.lent.relist_waits.signature (λ M 𝓤 𝓛. queues.lent.relist_waits.clauses 𝓛) _ (λ M. kept_queues.lent.relist_waits.Met.met) (λ w κs a g h o p. given w (λ i j. laws.queues 29 i j)) ∷
-    of queues.lent.waiters.signature (λ M 𝓤 𝓛. queues.lent.waiters.clauses 𝓛) _ (λ M. kept_queues.lent.waiters.Met.met) (λ w κs a g h o p. plain w result) ∷
+pub of_places : List Promise
+of_places =
+    of places.read.signature (λ M 𝓤 𝓛. places.read.clauses 𝓛) _ (λ M. kept_places.read.Met.met) (λ w κs a g h o p. plain w result) ∷
+    of places.put.signature (λ M 𝓤 𝓛. places.put.clauses 𝓛) _ (λ M. kept_places.put.Met.met) (λ w κs a g h o p. plain w buffer) ∷
+    of places.elements.element_at.signature (λ M 𝓤 𝓛. places.elements.element_at.clauses 𝓛) _ (λ M. kept_places.elements.element_at.Met.met) (λ w κs a g h o p. plain w result) ∷
+    of places.elements.put_element.signature (λ M 𝓤 𝓛. places.elements.put_element.clauses 𝓛) _ (λ M. kept_places.elements.put_element.Met.met) (λ w κs a g h o p. plain w buffer) ∷
+    of places.elements.pull_elements.signature (λ M 𝓤 𝓛. places.elements.pull_elements.clauses 𝓛) _ (λ M. kept_places.elements.pull_elements.Met.met) (λ w κs a g h o p. plain w buffer) ∷
+    of places.elements.refill_elements.signature (λ M 𝓤 𝓛. places.elements.refill_elements.clauses 𝓛) _ (λ M. kept_places.elements.refill_elements.Met.met) (λ w κs a g h o p. plain w buffer) ∷
+    of places.elements.clear_elements.signature (λ M 𝓤 𝓛. places.elements.clear_elements.clauses 𝓛) _ (λ M. kept_places.elements.clear_elements.Met.met) (λ w κs a g h o p. plain w buffer) ∷
     []
 
 pub of_stored : List Promise
 of_stored =
     of stored.record_at.signature (λ M 𝓤 𝓛. stored.record_at.clauses 𝓛) _ (λ M. kept_stored.record_at.Met.met) (λ w κs a g h o p. plain w result) ∷
-    typed stored.put_record.signature (λ M 𝓤 𝓛. stored.put_record.clauses 𝓛) _ (λ M. kept_stored.put_record.Met.met) (λ w κs a g h o p. given w (λ i j. laws.records i j)) ∷
-    typed stored.put_remaining.signature (λ M 𝓤 𝓛. stored.put_remaining.clauses 𝓛) _ (λ M. kept_stored.put_remaining.Met.met) (λ w κs a g h o p. given w (λ i j. words a.0.now i j)) ∷
-    typed stored.put_charge.signature (λ M 𝓤 𝓛. stored.put_charge.clauses 𝓛) _ (λ M. kept_stored.put_charge.Met.met) (λ w κs a g h o p. given w (λ i j. words a.0.now i j)) ∷
-    typed stored.put_marks.signature (λ M 𝓤 𝓛. stored.put_marks.clauses 𝓛) _ (λ M. kept_stored.put_marks.Met.met) (λ w κs a g h o p. given w (λ i j. words a.0.now i j)) ∷
-    typed stored.spread.signature (λ M 𝓤 𝓛. stored.spread.clauses 𝓛) _ (λ M. kept_stored.spread.Met.met) (λ w κs a g h o p. given w (λ i j. laws.records i j)) ∷
-    of stored.gather.signature (λ M 𝓤 𝓛. stored.gather.clauses 𝓛) _ (λ M. kept_stored.gather.Met.met) (λ w κs a g h o p. plain w result) ∷
-    []
-
-pub of_numbers : List Promise
-of_numbers =
-    of numbers.slice_at.signature (λ M 𝓤 𝓛. numbers.slice_at.clauses 𝓛) _ (λ M. kept_numbers.slice_at.Met.met) (λ w κs a g h o p. plain w result) ∷
-    of numbers.count_at.signature (λ M 𝓤 𝓛. numbers.count_at.clauses 𝓛) _ (λ M. kept_numbers.count_at.Met.met) (λ w κs a g h o p. plain w result) ∷
-    of numbers.maximum_at.signature (λ M 𝓤 𝓛. numbers.maximum_at.clauses 𝓛) _ (λ M. kept_numbers.maximum_at.Met.met) (λ w κs a g h o p. plain w result) ∷
-    of numbers.attributes_at.signature (λ M 𝓤 𝓛. numbers.attributes_at.clauses 𝓛) _ (λ M. kept_numbers.attributes_at.Met.met) (λ w κs a g h o p. plain w result) ∷
-    of numbers.bits_at.signature (λ M 𝓤 𝓛. numbers.bits_at.clauses 𝓛) _ (λ M. kept_numbers.bits_at.Met.met) (λ w κs a g h o p. plain w result) ∷
-    of numbers.time_in.signature (λ M 𝓤 𝓛. numbers.time_in.clauses 𝓛) _ (λ M. kept_numbers.time_in.Met.met) (λ w κs a g h o p. plain w result) ∷
-    of numbers.capacity_at.signature (λ M 𝓤 𝓛. numbers.capacity_at.clauses 𝓛) _ (λ M. kept_numbers.capacity_at.Met.met) (λ w κs a g h o p. plain w result) ∷
-    of numbers.taken_at.signature (λ M 𝓤 𝓛. numbers.taken_at.clauses 𝓛) _ (λ M. kept_numbers.taken_at.Met.met) (λ w κs a g h o p. plain w result) ∷
-    of numbers.elements.element_at.signature (λ M 𝓤 𝓛. numbers.elements.element_at.clauses 𝓛) _ (λ M. kept_numbers.elements.element_at.Met.met) (λ w κs a g h o p. plain w result) ∷
-    typed numbers.put_slice.signature (λ M 𝓤 𝓛. numbers.put_slice.clauses 𝓛) _ (λ M. kept_numbers.put_slice.Met.met) (λ w κs a g h o p. given w (λ i j. laws.numbers i j)) ∷
-    typed numbers.put_count.signature (λ M 𝓤 𝓛. numbers.put_count.clauses 𝓛) _ (λ M. kept_numbers.put_count.Met.met) (λ w κs a g h o p. given w (λ i j. laws.numbers i j)) ∷
-    typed numbers.put_maximum.signature (λ M 𝓤 𝓛. numbers.put_maximum.clauses 𝓛) _ (λ M. kept_numbers.put_maximum.Met.met) (λ w κs a g h o p. given w (λ i j. laws.numbers i j)) ∷
-    typed numbers.put_attributes.signature (λ M 𝓤 𝓛. numbers.put_attributes.clauses 𝓛) _ (λ M. kept_numbers.put_attributes.Met.met) (λ w κs a g h o p. given w (λ i j. laws.numbers i j)) ∷
-    typed numbers.put_bits.signature (λ M 𝓤 𝓛. numbers.put_bits.clauses 𝓛) _ (λ M. kept_numbers.put_bits.Met.met) (λ w κs a g h o p. given w (λ i j. laws.numbers i j)) ∷
-    typed numbers.put_time.signature (λ M 𝓤 𝓛. numbers.put_time.clauses 𝓛) _ (λ M. kept_numbers.put_time.Met.met) (λ w κs a g h o p. given w (λ i j. laws.numbers i j)) ∷
-    typed numbers.put_capacity.signature (λ M 𝓤 𝓛. numbers.put_capacity.clauses 𝓛) _ (λ M. kept_numbers.put_capacity.Met.met) (λ w κs a g h o p. given w (λ i j. laws.numbers i j)) ∷
-    typed numbers.put_taken.signature (λ M 𝓤 𝓛. numbers.put_taken.clauses 𝓛) _ (λ M. kept_numbers.put_taken.Met.met) (λ w κs a g h o p. given w (λ i j. laws.numbers i j)) ∷
-    typed numbers.elements.put_element.signature (λ M 𝓤 𝓛. numbers.elements.put_element.clauses 𝓛) _ (λ M. kept_numbers.elements.put_element.Met.met) (λ w κs a g h o p. given w (λ i j. laws.numbers i j)) ∷
-    typed numbers.elements.pull_elements.signature (λ M 𝓤 𝓛. numbers.elements.pull_elements.clauses 𝓛) _ (λ M. kept_numbers.elements.pull_elements.Met.met) (λ w κs a g h o p. given w (λ i j. laws.numbers i j)) ∷
-    typed numbers.elements.refill_elements.signature (λ M 𝓤 𝓛. numbers.elements.refill_elements.clauses 𝓛) _ (λ M. kept_numbers.elements.refill_elements.Met.met) (λ w κs a g h o p. given w (λ i j. laws.numbers i j)) ∷
-    typed numbers.elements.clear_elements.signature (λ M 𝓤 𝓛. numbers.elements.clear_elements.clauses 𝓛) _ (λ M. kept_numbers.elements.clear_elements.Met.met) (λ w κs a g h o p. given w (λ i j. laws.numbers i j)) ∷
-    typed numbers.spread.signature (λ M 𝓤 𝓛. numbers.spread.clauses 𝓛) _ (λ M. kept_numbers.spread.Met.met) (λ w κs a g h o p. given w (λ i j. laws.numbers i j)) ∷
-    of numbers.gather.signature (λ M 𝓤 𝓛. numbers.gather.clauses 𝓛) _ (λ M. kept_numbers.gather.Met.met) (λ w κs a g h o p. plain w result) ∷
+    of stored.put_remaining.signature (λ M 𝓤 𝓛. stored.put_remaining.clauses 𝓛) _ (λ M. kept_stored.put_remaining.Met.met) (λ w κs a g h o p. plain w buffer) ∷
+    of stored.put_charge.signature (λ M 𝓤 𝓛. stored.put_charge.clauses 𝓛) _ (λ M. kept_stored.put_charge.Met.met) (λ w κs a g h o p. plain w buffer) ∷
+    of stored.put_marks.signature (λ M 𝓤 𝓛. stored.put_marks.clauses 𝓛) _ (λ M. kept_stored.put_marks.Met.met) (λ w κs a g h o p. plain w buffer) ∷
     []
 
 pub of_tables : List Promise
 of_tables =
-    typed tables.spread.signature (λ M 𝓤 𝓛. tables.spread.clauses 𝓛) _ (λ M. kept_tables.spread.Met.met) (λ w κs a g h o p. given w (λ i j. five (λ s. s) (λ b v l q n s. (tt, (b, (v, (l, (q, (n, _))))))) i j refl refl)) ∷
-    of tables.gather.signature (λ M 𝓤 𝓛. tables.gather.clauses 𝓛) _ (λ M. kept_tables.gather.Met.met) (λ w κs a g h o p. plain w result) ∷
     of tables.semaphore_at.signature (λ M 𝓤 𝓛. tables.semaphore_at.clauses 𝓛) _ (λ M. kept_tables.semaphore_at.Met.met) (λ w κs a g h o p. plain w result) ∷
     of tables.flag_at.signature (λ M 𝓤 𝓛. tables.flag_at.clauses 𝓛) _ (λ M. kept_tables.flag_at.Met.met) (λ w κs a g h o p. plain w result) ∷
     of tables.queue_at.signature (λ M 𝓤 𝓛. tables.queue_at.clauses 𝓛) _ (λ M. kept_tables.queue_at.Met.met) (λ w κs a g h o p. plain w result) ∷
@@ -154,7 +115,6 @@ of_checks =
     of checks.is_queue.signature (λ M 𝓤 𝓛. checks.is_queue.clauses 𝓛) _ (λ M. kept_checks.is_queue.Met.met) (λ w κs a g h o p. plain w result) ∷
     of checks.is_attributes.signature (λ M 𝓤 𝓛. checks.is_attributes.clauses 𝓛) _ (λ M. kept_checks.is_attributes.Met.met) (λ w κs a g h o p. plain w result) ∷
     of checks.checked.signature (λ M 𝓤 𝓛. checks.checked.clauses 𝓛) _ (λ M. kept_checks.checked.Met.met) (λ w κs a g h o p. plain w result) ∷
-    of checks.refused.signature (λ M 𝓤 𝓛. checks.refused.clauses 𝓛) _ (λ M. kept_checks.refused.Met.met) (λ w κs a g h o p. plain w result) ∷
     of checks.does.signature (λ M 𝓤 𝓛. checks.does.clauses 𝓛) _ (λ M. kept_checks.does.Met.met) (λ w κs a g h o p. plain w result) ∷
     of checks.gives.signature (λ M 𝓤 𝓛. checks.gives.clauses 𝓛) _ (λ M. kept_checks.gives.Met.met) (λ w κs a g h o p. plain w result) ∷
     of checks.moves.signature (λ M 𝓤 𝓛. checks.moves.clauses 𝓛) _ (λ M. kept_checks.moves.Met.met) (λ w κs a g h o p. plain w result) ∷
@@ -165,45 +125,44 @@ of_checks =
 
 pub of_plans_task : List Promise
 of_plans_task =
-    of plans_task.life.create.signature (λ M 𝓤 𝓛. plans_task.life.create.clauses 𝓛) _ (λ M. kept_plans_task.life.create.Met.met) (λ w κs a g h o p. plain w result) ∷
-    of plans_task.life.delete.signature (λ M 𝓤 𝓛. plans_task.life.delete.clauses 𝓛) _ (λ M. kept_plans_task.life.delete.Met.met) (λ w κs a g h o p. plain w result) ∷
-    of plans_task.life.activate.signature (λ M 𝓤 𝓛. plans_task.life.activate.clauses 𝓛) _ (λ M. kept_plans_task.life.activate.Met.met) (λ w κs a g h o p. plain w result) ∷
-    of plans_task.life.exit.signature (λ M 𝓤 𝓛. plans_task.life.exit.clauses 𝓛) _ (λ M. kept_plans_task.life.exit.Met.met) (λ w κs a g h o p. plain w result) ∷
-    of plans_task.life.terminate.signature (λ M 𝓤 𝓛. plans_task.life.terminate.clauses 𝓛) _ (λ M. kept_plans_task.life.terminate.Met.met) (λ w κs a g h o p. plain w result) ∷
-    of plans_task.ready.ready_ticks.signature (λ M 𝓤 𝓛. plans_task.ready.ready_ticks.clauses 𝓛) _ (λ M. kept_plans_task.ready.ready_ticks.Met.met) (λ w κs a g h o p. plain w result) ∷
-    of plans_task.turns.change_priority.signature (λ M 𝓤 𝓛. plans_task.turns.change_priority.clauses 𝓛) _ (λ M. kept_plans_task.turns.change_priority.Met.met) (λ w κs a g h o p. plain w result) ∷
-    of plans_task.turns.tslice_ticks.signature (λ M 𝓤 𝓛. plans_task.turns.tslice_ticks.clauses 𝓛) _ (λ M. kept_plans_task.turns.tslice_ticks.Met.met) (λ w κs a g h o p. plain w result) ∷
-    of plans_task.turns.tick.signature (λ M 𝓤 𝓛. plans_task.turns.tick.clauses 𝓛) _ (λ M. kept_plans_task.turns.tick.Met.met) (λ w κs a g h o p. plain w result) ∷
-    of plans_task.waits.suspend.signature (λ M 𝓤 𝓛. plans_task.waits.suspend.clauses 𝓛) _ (λ M. kept_plans_task.waits.suspend.Met.met) (λ w κs a g h o p. plain w result) ∷
-    of plans_task.waits.resume.signature (λ M 𝓤 𝓛. plans_task.waits.resume.clauses 𝓛) _ (λ M. kept_plans_task.waits.resume.Met.met) (λ w κs a g h o p. plain w result) ∷
-    of plans_task.waits.sleep.signature (λ M 𝓤 𝓛. plans_task.waits.sleep.clauses 𝓛) _ (λ M. kept_plans_task.waits.sleep.Met.met) (λ w κs a g h o p. plain w result) ∷
-    of plans_task.waits.wakeup.signature (λ M 𝓤 𝓛. plans_task.waits.wakeup.clauses 𝓛) _ (λ M. kept_plans_task.waits.wakeup.Met.met) (λ w κs a g h o p. plain w result) ∷
-    of plans_task.waits.release_wait.signature (λ M 𝓤 𝓛. plans_task.waits.release_wait.clauses 𝓛) _ (λ M. kept_plans_task.waits.release_wait.Met.met) (λ w κs a g h o p. plain w result) ∷
+    of plans_task.life.create.signature (λ M 𝓤 𝓛. plans_task.life.create.clauses 𝓛) _ (λ M. kept_plans_task.life.create.Met.met) (λ w κs a g h o p. plain w (λ x y. decided x.plan x.decision y.plan y.decision)) ∷
+    of plans_task.life.delete.signature (λ M 𝓤 𝓛. plans_task.life.delete.clauses 𝓛) _ (λ M. kept_plans_task.life.delete.Met.met) (λ w κs a g h o p. plain w (λ x y. decided x.plan x.decision y.plan y.decision)) ∷
+    of plans_task.life.activate.signature (λ M 𝓤 𝓛. plans_task.life.activate.clauses 𝓛) _ (λ M. kept_plans_task.life.activate.Met.met) (λ w κs a g h o p. plain w (λ x y. decided x.plan x.decision y.plan y.decision)) ∷
+    of plans_task.life.exit.signature (λ M 𝓤 𝓛. plans_task.life.exit.clauses 𝓛) _ (λ M. kept_plans_task.life.exit.Met.met) (λ w κs a g h o p. plain w (λ x y. decided x.plan x.decision y.plan y.decision)) ∷
+    of plans_task.life.terminate.signature (λ M 𝓤 𝓛. plans_task.life.terminate.clauses 𝓛) _ (λ M. kept_plans_task.life.terminate.Met.met) (λ w κs a g h o p. plain w (λ x y. decided x.plan x.decision y.plan y.decision)) ∷
+    of plans_task.ready.ready_ticks.signature (λ M 𝓤 𝓛. plans_task.ready.ready_ticks.clauses 𝓛) _ (λ M. kept_plans_task.ready.ready_ticks.Met.met) (λ w κs a g h o p. plain w (λ x y. decided x.plan x.decision y.plan y.decision)) ∷
+    of plans_task.turns.change_priority.signature (λ M 𝓤 𝓛. plans_task.turns.change_priority.clauses 𝓛) _ (λ M. kept_plans_task.turns.change_priority.Met.met) (λ w κs a g h o p. plain w (λ x y. decided x.plan x.decision y.plan y.decision)) ∷
+    of plans_task.turns.tslice_ticks.signature (λ M 𝓤 𝓛. plans_task.turns.tslice_ticks.clauses 𝓛) _ (λ M. kept_plans_task.turns.tslice_ticks.Met.met) (λ w κs a g h o p. plain w (λ x y. decided x.plan x.decision y.plan y.decision)) ∷
+    of plans_task.turns.tick.signature (λ M 𝓤 𝓛. plans_task.turns.tick.clauses 𝓛) _ (λ M. kept_plans_task.turns.tick.Met.met) (λ w κs a g h o p. plain w (λ x y. decided x.plan x.decision y.plan y.decision)) ∷
+    of plans_task.waits.suspend.signature (λ M 𝓤 𝓛. plans_task.waits.suspend.clauses 𝓛) _ (λ M. kept_plans_task.waits.suspend.Met.met) (λ w κs a g h o p. plain w (λ x y. decided x.plan x.decision y.plan y.decision)) ∷
+    of plans_task.waits.resume.signature (λ M 𝓤 𝓛. plans_task.waits.resume.clauses 𝓛) _ (λ M. kept_plans_task.waits.resume.Met.met) (λ w κs a g h o p. plain w (λ x y. decided x.plan x.decision y.plan y.decision)) ∷
+    of plans_task.waits.sleep.signature (λ M 𝓤 𝓛. plans_task.waits.sleep.clauses 𝓛) _ (λ M. kept_plans_task.waits.sleep.Met.met) (λ w κs a g h o p. plain w (λ x y. decided x.plan x.decision y.plan y.decision)) ∷
+    of plans_task.waits.wakeup.signature (λ M 𝓤 𝓛. plans_task.waits.wakeup.clauses 𝓛) _ (λ M. kept_plans_task.waits.wakeup.Met.met) (λ w κs a g h o p. plain w (λ x y. decided x.plan x.decision y.plan y.decision)) ∷
+    of plans_task.waits.release_wait.signature (λ M 𝓤 𝓛. plans_task.waits.release_wait.clauses 𝓛) _ (λ M. kept_plans_task.waits.release_wait.Met.met) (λ w κs a g h o p. plain w (λ x y. decided x.plan x.decision y.plan y.decision)) ∷
     []
 
 pub of_plans_semaphore : List Promise
 of_plans_semaphore =
-    of plans_semaphore.sem_create.signature (λ M 𝓤 𝓛. plans_semaphore.sem_create.clauses 𝓛) _ (λ M. kept_plans_semaphore.sem_create.Met.met) (λ w κs a g h o p. plain w result) ∷
-    of plans_semaphore.sem_delete.signature (λ M 𝓤 𝓛. plans_semaphore.sem_delete.clauses 𝓛) _ (λ M. kept_plans_semaphore.sem_delete.Met.met) (λ w κs a g h o p. plain w result) ∷
-    of plans_semaphore.signal.signature (λ M 𝓤 𝓛. plans_semaphore.signal.clauses 𝓛) _ (λ M. kept_plans_semaphore.signal.Met.met) (λ w κs a g h o p. plain w result) ∷
-    of plans_semaphore.acquire.signature (λ M 𝓤 𝓛. plans_semaphore.acquire.clauses 𝓛) _ (λ M. kept_plans_semaphore.acquire.Met.met) (λ w κs a g h o p. plain w result) ∷
-    of plans_semaphore.polling.signature (λ M 𝓤 𝓛. plans_semaphore.polling.clauses 𝓛) _ (λ M. kept_plans_semaphore.polling.Met.met) (λ w κs a g h o p. plain w result) ∷
+    of plans_semaphore.sem_create.signature (λ M 𝓤 𝓛. plans_semaphore.sem_create.clauses 𝓛) _ (λ M. kept_plans_semaphore.sem_create.Met.met) (λ w κs a g h o p. plain w (λ x y. decided x.plan x.decision y.plan y.decision)) ∷
+    of plans_semaphore.sem_delete.signature (λ M 𝓤 𝓛. plans_semaphore.sem_delete.clauses 𝓛) _ (λ M. kept_plans_semaphore.sem_delete.Met.met) (λ w κs a g h o p. plain w (λ x y. decided x.plan x.decision y.plan y.decision)) ∷
+    of plans_semaphore.signal.signature (λ M 𝓤 𝓛. plans_semaphore.signal.clauses 𝓛) _ (λ M. kept_plans_semaphore.signal.Met.met) (λ w κs a g h o p. plain w (λ x y. decided x.plan x.decision y.plan y.decision)) ∷
+    of plans_semaphore.acquire.signature (λ M 𝓤 𝓛. plans_semaphore.acquire.clauses 𝓛) _ (λ M. kept_plans_semaphore.acquire.Met.met) (λ w κs a g h o p. plain w (λ x y. decided x.plan x.decision y.plan y.decision)) ∷
+    of plans_semaphore.polling.signature (λ M 𝓤 𝓛. plans_semaphore.polling.clauses 𝓛) _ (λ M. kept_plans_semaphore.polling.Met.met) (λ w κs a g h o p. plain w (λ x y. decided x.plan x.decision y.plan y.decision)) ∷
     []
 
 pub of_plans_flag : List Promise
 of_plans_flag =
     of plans_flag.flag_subject.signature (λ M 𝓤 𝓛. plans_flag.flag_subject.clauses 𝓛) _ (λ M. kept_plans_flag.flag_subject.Met.met) (λ w κs a g h o p. plain w result) ∷
-    of plans_flag.flag_plan.signature (λ M 𝓤 𝓛. plans_flag.flag_plan.clauses 𝓛) _ (λ M. kept_plans_flag.flag_plan.Met.met) (λ w κs a g h o p. plain w result) ∷
+    of plans_flag.flag_plan.signature (λ M 𝓤 𝓛. plans_flag.flag_plan.clauses 𝓛) _ (λ M. kept_plans_flag.flag_plan.Met.met) (λ w κs a g h o p. plain w (λ x y. decided x.plan x.decision y.plan y.decision)) ∷
     []
 
 pub of_plans_queue : List Promise
-of_plans_queue = of plans_queue.queue_plan.signature (λ M 𝓤 𝓛. plans_queue.queue_plan.clauses 𝓛) _ (λ M. kept_plans_queue.queue_plan.Met.met) (λ w κs a g h o p. plain w result) ∷ []
+of_plans_queue = of plans_queue.queue_plan.signature (λ M 𝓤 𝓛. plans_queue.queue_plan.clauses 𝓛) _ (λ M. kept_plans_queue.queue_plan.Met.met) (λ w κs a g h o p. plain w (λ x y. decided x.plan x.decision y.plan y.decision)) ∷ []
 
 pub of_plans : List Promise
 of_plans =
-    of plans.in_i.signature (λ M 𝓤 𝓛. plans.in_i.clauses 𝓛) _ (λ M. kept_plans.in_i.Met.met) (λ w κs a g h o p. plain w result) ∷
-    of plans.queue.queue_plan_in.signature (λ M 𝓤 𝓛. plans.queue.queue_plan_in.clauses 𝓛) _ (λ M. kept_plans.queue.queue_plan_in.Met.met) (λ w κs a g h o p. plain w result) ∷
-    of plans.plan_in.signature (λ M 𝓤 𝓛. plans.plan_in.clauses 𝓛) _ (λ M. kept_plans.plan_in.Met.met) (λ w κs a g h o p. plain w result) ∷
+    of plans.queue.queue_plan_in.signature (λ M 𝓤 𝓛. plans.queue.queue_plan_in.clauses 𝓛) _ (λ M. kept_plans.queue.queue_plan_in.Met.met) (λ w κs a g h o p. plain w (λ x y. decided x.plan x.decision y.plan y.decision)) ∷
+    of plans.plan_in.signature (λ M 𝓤 𝓛. plans.plan_in.clauses 𝓛) _ (λ M. kept_plans.plan_in.Met.met) (λ w κs a g h o p. plain w (λ x y. decided x.plan x.decision y.plan y.decision)) ∷
     []
 
 pub of_crossing : List Promise
@@ -215,7 +174,6 @@ pub of_sound_parts : List Promise
 of_sound_parts =
     of sound_parts.flag.flag_sound.signature (λ M 𝓤 𝓛. sound_parts.flag.flag_sound.clauses 𝓛) _ (λ M. kept_sound_parts.flag.flag_sound.Met.met) (λ w κs a g h o p. plain w result) ∷
     of sound_parts.flag.is_unmet.signature (λ M 𝓤 𝓛. sound_parts.flag.is_unmet.clauses 𝓛) _ (λ M. kept_sound_parts.flag.is_unmet.Met.met) (λ w κs a g h o p. plain w result) ∷
-    of sound_parts.flag.second_waiter.signature (λ M 𝓤 𝓛. sound_parts.flag.second_waiter.clauses 𝓛) _ (λ M. kept_sound_parts.flag.second_waiter.Met.met) (λ w κs a g h o p. plain w result) ∷
     of sound_parts.queue.stock_sound.signature (λ M 𝓤 𝓛. sound_parts.queue.stock_sound.clauses 𝓛) _ (λ M. kept_sound_parts.queue.stock_sound.Met.met) (λ w κs a g h o p. plain w result) ∷
     of sound_parts.queue.is_queue_wait.signature (λ M 𝓤 𝓛. sound_parts.queue.is_queue_wait.clauses 𝓛) _ (λ M. kept_sound_parts.queue.is_queue_wait.Met.met) (λ w κs a g h o p. plain w result) ∷
     of sound_parts.queue.is_unserved.signature (λ M 𝓤 𝓛. sound_parts.queue.is_unserved.clauses 𝓛) _ (λ M. kept_sound_parts.queue.is_unserved.Met.met) (λ w κs a g h o p. plain w result) ∷
@@ -234,23 +192,23 @@ of_sound =
 
 pub of_effects : List Promise
 of_effects =
-    typed effects.move_from.signature (λ M 𝓤 𝓛. effects.move_from.clauses 𝓛) _ (λ M. kept_effects.move_from.Met.met) (λ w κs a g h o p. given w (λ i j. four a.1.1.1.1.0.now i j)) ∷
-    typed effects.move_task.signature (λ M 𝓤 𝓛. effects.move_task.clauses 𝓛) _ (λ M. kept_effects.move_task.Met.met) (λ w κs a g h o p. given w (λ i j. four a.1.1.1.1.0.now i j)) ∷
-    typed effects.charge.signature (λ M 𝓤 𝓛. effects.charge.clauses 𝓛) _ (λ M. kept_effects.charge.Met.met) (λ w κs a g h o p. given w (λ i j. charged a.0.now a.1.1.1.0.now a.1.1.1.1.0.now i j)) ∷
-    typed effects.lapse.signature (λ M 𝓤 𝓛. effects.lapse.clauses 𝓛) _ (λ M. kept_effects.lapse.Met.met) (λ w κs a g h o p. given w (λ i j. four a.1.1.1.1.0.now i j)) ∷
-    typed effects.tell_all.signature (λ M 𝓤 𝓛. effects.tell_all.clauses 𝓛) _ (λ M. kept_effects.tell_all.Met.met) (λ w κs a g h o p. given w (λ i j. four a.1.1.1.1.0.now i j)) ∷
+    of effects.move_from.signature (λ M 𝓤 𝓛. effects.move_from.clauses 𝓛) _ (λ M. kept_effects.move_from.Met.met) (λ w κs a g h o p. plain w buffer) ∷
+    of effects.move_task.signature (λ M 𝓤 𝓛. effects.move_task.clauses 𝓛) _ (λ M. kept_effects.move_task.Met.met) (λ w κs a g h o p. plain w buffer) ∷
+    of effects.charge.signature (λ M 𝓤 𝓛. effects.charge.clauses 𝓛) _ (λ M. kept_effects.charge.Met.met) (λ w κs a g h o p. plain w buffer) ∷
+    of effects.lapse.signature (λ M 𝓤 𝓛. effects.lapse.clauses 𝓛) _ (λ M. kept_effects.lapse.Met.met) (λ w κs a g h o p. plain w buffer) ∷
+    of effects.tell_all.signature (λ M 𝓤 𝓛. effects.tell_all.clauses 𝓛) _ (λ M. kept_effects.tell_all.Met.met) (λ w κs a g h o p. plain w buffer) ∷
     []
 
 pub of_carry : List Promise
 of_carry =
-    typed carry.tick.signature (λ M 𝓤 𝓛. carry.tick.clauses 𝓛) _ (λ M. kept_carry.tick.Met.met) (λ w κs a g h o p. given w (λ i j. five (λ s. s) (λ b v l q n s. (tt, (b, (v, (l, (q, (n, _))))))) i j refl refl)) ∷
-    typed carry.queue.carry_queue.signature (λ M 𝓤 𝓛. carry.queue.carry_queue.clauses 𝓛) _ (λ M. kept_carry.queue.carry_queue.Met.met) (λ w κs a g h o p. given w (λ i j. five (λ s. s) (λ b v l q n s. (tt, (b, (v, (l, (q, (n, _))))))) i j refl refl)) ∷
-    typed carry.carry.signature (λ M 𝓤 𝓛. carry.carry.clauses 𝓛) _ (λ M. kept_carry.carry.Met.met) (λ w κs a g h o p. given w (λ i j. five (λ s. s) (λ b v l q n s. (tt, (b, (v, (l, (q, (n, _))))))) i j refl refl)) ∷
+    of carry.tick.signature (λ M 𝓤 𝓛. carry.tick.clauses 𝓛) _ (λ M. kept_carry.tick.Met.met) (λ w κs a g h o p. plain w buffer) ∷
+    of carry.queue.carry_queue.signature (λ M 𝓤 𝓛. carry.queue.carry_queue.clauses 𝓛) _ (λ M. kept_carry.queue.carry_queue.Met.met) (λ w κs a g h o p. plain w buffer) ∷
+    of carry.carry.signature (λ M 𝓤 𝓛. carry.carry.clauses 𝓛) _ (λ M. kept_carry.carry.Met.met) (λ w κs a g h o p. plain w buffer) ∷
     []
 
 pub of_step : List Promise
 of_step =
-    typed step.step_in.signature (λ M 𝓤 𝓛. step.step_in.clauses 𝓛) _ (λ M. kept_step.step_in.Met.met) (λ w κs a g h o p. given w (λ i j. five (λ r. r.state) (λ b v l q n s. (record { code = s.code; running = s.running; value = s.value }, (b, (v, (l, (q, (n, _))))))) i j refl refl)) ∷
+    of step.step_in.signature (λ M 𝓤 𝓛. step.step_in.clauses 𝓛) _ (λ M. kept_step.step_in.Met.met) (λ w κs a g h o p. plain w (answers (λ r. record { code = r.code; running = r.running; value = r.value }) (λ r. r.state) _ _)) ∷
     []
 
 pub of_kernel : List Promise

@@ -1,6 +1,5 @@
 -- The table of public functions, from text to what callers in other languages have: a row cites a function's contract, that the function keeps it, and the law by which it is tight.
 -- Rests on the generated modules of the crates named below, and on Laws.
-use mathlib.Core.Path.{refl}
 use mathlib.Core.List.{List, [], ◌∷◌}
 use Rattle.text.specs.contracts as text
 use Rattle.text.proofs as kept_text
@@ -19,7 +18,7 @@ use Rattle.runner.proofs as kept_runner
 use Rattle.gritgarland.specs.contracts as gritgarland
 use Rattle.gritgarland.proofs as kept_gritgarland
 use Rattle.promises.specs.Tight.{Promise}
-use Rattle.promises.proofs.Laws.{of, typed, plain, given, result, bounded, both, besides, answer, five}
+use Rattle.promises.proofs.Laws.{of, plain, result, bounded, both, besides, answer, answers}
 
 pub of_text : List Promise
 of_text =
@@ -53,7 +52,7 @@ of_lines =
 
 pub of_walk : List Promise
 of_walk =
-    typed walk.play_line.signature (λ M 𝓤 𝓛. walk.play_line.clauses 𝓛) _ (λ M. kept_walk.play_line.Met.met) (λ w κs a g h o p. given w (λ i j. five (λ t. t.state) (λ b v l q n s. (s.turn, (b, (v, (l, (q, (n, _))))))) i j refl refl)) ∷
+    of walk.play_line.signature (λ M 𝓤 𝓛. walk.play_line.clauses 𝓛) _ (λ M. kept_walk.play_line.Met.met) (λ w κs a g h o p. plain w (answers (λ t. t.turn) (λ t. t.state) _ _)) ∷
     []
 
 pub of_answers : List Promise
