@@ -72,7 +72,7 @@ pub fn is_queue(q: u32) -> bool
 pub fn is_attributes(n: u32) -> bool
     ensures { result ≡ is_attributes n }
 {
-    (n == 0) | ((n == 1) | (n == 3))
+    matches!(n, 0 | 1 | 3)
 }
 
 // ---- the order of checks

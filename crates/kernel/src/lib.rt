@@ -45,7 +45,7 @@ pub fn running(s: State) -> u8
 }
 
 // The checked call on a lent state: one that is not sound gets UNSOUND and task 0, and stays as it was.
-#[tactic(auto, using(crate::proofs::Calling::refused, crate::proofs::Calling::answered))]
+#[tactic(auto, unfolding(model::specs::Call::call), using(step::proofs::Stepping::step_from_lem))]
 fn call_in(s: &mut State, c: Context, a: Call) -> Stepped
     ensures { answer_of result s.new ≡ call s.old c a }
 {

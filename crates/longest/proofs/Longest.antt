@@ -86,9 +86,12 @@ pub few_calls : FewCalls
 unfolding script_of rows_by
 few_calls file fits = go (header_of file) refl
   where
+    each : (wide : Bool) (h : ℕ) → header_of file ≡ Some (record { wide = wide; next = h }) → length (rows_of (script_in wide h file 2)) ≤ 3639
+    each true h e = omega (arith, after_header file fits true h e)
+    each false h e = omega (arith, after_header file fits false h e)
+
     go : (t : Option Header) → header_of file ≡ t → length (rows_of (header_then t (λ wide h. script_in wide h file 2))) ≤ 3639
-    go (Some (record { wide = true; next = h })) e = omega (arith, after_header file fits true h e)
-    go (Some (record { wide = false; next = h })) e = omega (arith, after_header file fits false h e)
+    go (Some x) e = each x.wide x.next e
     go None e = omega arith
 
 -- ---- a short answer

@@ -1,16 +1,16 @@
 // Every call's plan on a state: each arm looks at what its service asks for, and at nothing else.
-// It is `planned_from` of model/specs/Call, for every state; it rests on plans_task, plans_semaphore, plans_flag and plans_queue.
+// It is `planned_from` of model/specs/Call, for every value; it rests on plans_task, plans_semaphore, plans_flag and plans_queue.
 #![tactic(auto)]
 
 ghost use Rattle.std.specs.Prelude.{◌≡◌, cond, not};
 ghost use Rattle.model.specs.declared.Context.TheVariants.{I};
 ghost use Rattle.model.specs.declared.Call.TheVariants.{OnFlag};
+ghost use Rattle.checks.specs.Gate.{plan_of, IsDecision};
 ghost use Rattle.model.specs.Row.{first_of};
 ghost use Rattle.model.specs.State.{task, semaphore};
 ghost use Rattle.model.specs.Service.{signal};
 ghost use Rattle.model.specs.Services.{same, is_mine};
 ghost use Rattle.model.specs.Call.{planned_from};
-ghost use Rattle.checks.specs.Gate.{plan_of, IsDecision};
 
 use crate::queue::queue_plan_in;
 use model::{Call, Code, Context, FlagService, Plan, State};
@@ -31,17 +31,17 @@ pub mod queue;
 fn is_flag_inside(service: FlagService) -> bool
     ensures { result ≡ is_mine I (OnFlag 0 service) }
 {
-    match service {
-        FlagService::Iset { .. } | FlagService::Iclear { .. } | FlagService::Iwait { .. } => true,
-        _ => false,
-    }
+    matches!(
+        service,
+        FlagService::Iset { .. } | FlagService::Iclear { .. } | FlagService::Iwait { .. }
+    )
 }
 
 // A service comes from the context that it belongs to, interrupts or not.
 pub(crate) fn is_mine(c: Context, inside: bool) -> bool
     ensures { result ≡ cond (same c I) inside (not inside) }
 {
-    (c == Context::I) == inside
+    inside == (c == Context::I)
 }
 
 // ---- plans
@@ -51,10 +51,10 @@ fn signal_in(s: &State, mine: bool, m: u32) -> Result<Plan, Code>
     ensures decision { IsDecision result }
 {
     let x = semaphore_at(s, m as usize);
-    let k = record_at(&s.tasks, x.first as usize);
-    signal(mine, m, k, x)
+    signal(mine, m, record_at(&s.tasks, x.first as usize), x)
 }
 
+#[tactic(auto, unfolding(model::specs::Call::plan, model::specs::Services::is_mine))]
 fn flag_plan_in(
     s: &State,
     run: u8,
@@ -67,8 +67,14 @@ fn flag_plan_in(
 {
     let y = flag_at(s, flag as usize);
     let k = record_at(&s.tasks, flag_subject(service, run, y.first) as usize);
-    let mine = is_mine(c, is_flag_inside(service));
-    flag_plan(mine, flag, service, run, k, y)
+    flag_plan(
+        is_mine(c, is_flag_inside(service)),
+        flag,
+        service,
+        run,
+        k,
+        y,
+    )
 }
 
 // The context that each arm asks for is the one that its service belongs to in the table of services.

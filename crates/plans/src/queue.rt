@@ -1,11 +1,11 @@
 // The plan of a service of data queues on a state: who runs and the queue are looked at, and nothing else.
-// It is `planned_from` of model/specs/Call for these calls, for every state; it rests on plans_queue.
+// It is `planned_from` of model/specs/Call for these calls, for every value; it rests on plans_queue.
 ghost use Rattle.std.specs.Prelude.{◌≡◌};
 ghost use Rattle.model.specs.declared.Context.TheVariants.{I};
 ghost use Rattle.model.specs.declared.Call.TheVariants.{OnQueue};
+ghost use Rattle.checks.specs.Gate.{plan_of, IsDecision};
 ghost use Rattle.model.specs.Services.{is_mine};
 ghost use Rattle.model.specs.Call.{planned_from};
-ghost use Rattle.checks.specs.Gate.{plan_of, IsDecision};
 
 use crate::is_mine;
 use model::{Code, Context, Plan, QueueService, State};
@@ -18,12 +18,13 @@ use tables::queue_at;
 fn is_queue_inside(service: QueueService) -> bool
     ensures { result ≡ is_mine I (OnQueue 0 service) }
 {
-    match service {
-        QueueService::IsendPolling { .. } | QueueService::Ireceive => true,
-        _ => false,
-    }
+    matches!(
+        service,
+        QueueService::IsendPolling { .. } | QueueService::Ireceive
+    )
 }
 
+#[tactic(auto, unfolding(model::specs::Call::plan, model::specs::Services::is_mine))]
 pub fn queue_plan_in(
     s: &State,
     run: u8,
@@ -36,6 +37,12 @@ pub fn queue_plan_in(
 {
     let z = queue_at(s, queue as usize);
     let k = record_at(&s.tasks, run as usize);
-    let mine = is_mine(c, is_queue_inside(service));
-    queue_plan(mine, queue, service, run, k, z)
+    queue_plan(
+        is_mine(c, is_queue_inside(service)),
+        queue,
+        service,
+        run,
+        k,
+        z,
+    )
 }

@@ -66,7 +66,7 @@ fn flag_create(mine: bool, flag: u32, attributes: u32, bits: u32, y: Flag) -> Re
     ensures decision { IsDecision result }
 {
     checked(
-        is_flag(flag) & (is_attributes(attributes) & (y.attributes == 0)),
+        is_flag(flag) && is_attributes(attributes) && y.attributes == 0,
         true,
         mine,
     )?;
@@ -93,7 +93,7 @@ fn flag_set(mine: bool, flag: u32, bits: u32, k: Task, y: Flag) -> Result<Plan, 
     ensures plan { plan_of result ≡ flag_set mine flag bits k y }
     ensures decision { IsDecision result }
 {
-    checked(is_flag(flag) & (bits != 0), y.attributes != 0, mine)?;
+    checked(is_flag(flag) && bits != 0, y.attributes != 0, mine)?;
     let all = y.bits | bits;
     let left = bits_left(y.attributes, meets_first(all, k, y), all);
     Ok(does(Effect::Tells {
@@ -109,7 +109,7 @@ fn flag_clear(mine: bool, flag: u32, bits: u32, y: Flag) -> Result<Plan, Code>
     ensures plan { plan_of result ≡ flag_clear mine flag bits y }
     ensures decision { IsDecision result }
 {
-    checked(is_flag(flag) & (bits != 0), y.attributes != 0, mine)?;
+    checked(is_flag(flag) && bits != 0, y.attributes != 0, mine)?;
     let left = y.bits & !bits;
     Ok(flags(flag as u8, y.attributes, left))
 }
@@ -129,7 +129,7 @@ fn flag_wait(
     ensures decision { IsDecision result }
 {
     checked(
-        is_flag(flag) & ((pattern != 0) & ((mode <= 1) & is_timeout(timeout))),
+        is_flag(flag) && pattern != 0 && mode <= 1 && is_timeout(timeout),
         y.attributes != 0,
         mine,
     )?;

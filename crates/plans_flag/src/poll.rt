@@ -21,7 +21,7 @@ pub(crate) fn flag_poll(
     ensures decision { IsDecision result }
 {
     checked(
-        is_flag(flag) & ((pattern != 0) & (mode <= 1)),
+        is_flag(flag) && pattern != 0 && mode <= 1,
         y.attributes != 0,
         mine,
     )?;

@@ -82,7 +82,7 @@ fn queue_create(mine: bool, queue: u32, capacity: u32, z: DataQueue) -> Result<P
     ensures decision { IsDecision result }
 {
     checked(
-        is_queue(queue) & ((capacity <= 16) & (z.capacity == 0)),
+        is_queue(queue) && capacity <= 16 && z.capacity == 0,
         true,
         mine,
     )?;
@@ -114,7 +114,11 @@ fn queue_send(
     ensures plan { plan_of result ≡ queue_send mine queue element timeout run k z }
     ensures decision { IsDecision result }
 {
-    checked(is_queue(queue) & is_timeout(timeout), z.capacity != 0, mine)?;
+    checked(
+        is_queue(queue) && is_timeout(timeout),
+        z.capacity != 0,
+        mine,
+    )?;
     if run == 0 {
         return Err(Code::WContext);
     }
@@ -144,7 +148,11 @@ fn queue_receive(
     ensures plan { plan_of result ≡ queue_receive mine queue timeout run k z }
     ensures decision { IsDecision result }
 {
-    checked(is_queue(queue) & is_timeout(timeout), z.capacity != 0, mine)?;
+    checked(
+        is_queue(queue) && is_timeout(timeout),
+        z.capacity != 0,
+        mine,
+    )?;
     if run == 0 {
         return Err(Code::WContext);
     }

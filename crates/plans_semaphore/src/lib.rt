@@ -23,7 +23,7 @@ pub fn sem_create(
     ensures decision { IsDecision result }
 {
     checked(
-        is_semaphore(semaphore) & (is_maximum(maximum) & ((start <= maximum) & (x.maximum == 0))),
+        is_semaphore(semaphore) && is_maximum(maximum) && start <= maximum && x.maximum == 0,
         true,
         mine,
     )?;
@@ -75,7 +75,7 @@ pub fn acquire(
     ensures decision { IsDecision result }
 {
     checked(
-        is_semaphore(semaphore) & is_timeout(timeout),
+        is_semaphore(semaphore) && is_timeout(timeout),
         x.maximum != 0,
         mine,
     )?;

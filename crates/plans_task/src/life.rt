@@ -14,14 +14,11 @@ pub fn create(mine: bool, task: u32, priority: u32, option: u32, k: Task) -> Res
     ensures decision { IsDecision result }
 {
     checked(
-        is_task(task) & (is_priority(priority) & ((option <= 1) & (k.base == 0))),
+        is_task(task) && is_priority(priority) && option <= 1 && k.base == 0,
         true,
         mine,
     )?;
-    let t = task as u8;
-    let p = priority as u8;
-    let o = option as u8;
-    Ok(moves(t, created(p, o)))
+    Ok(moves(task as u8, created(priority as u8, option as u8)))
 }
 
 #[tactic(auto, unfolding(checks::specs::Gate::gate, model::specs::Plan::within, model::specs::Service::delete))]
@@ -33,8 +30,7 @@ pub fn delete(mine: bool, task: u32, k: Task) -> Result<Plan, Code>
     if k.active != 0 {
         return Err(Code::WContext);
     }
-    let t = task as u8;
-    Ok(moves(t, no_task()))
+    Ok(moves(task as u8, no_task()))
 }
 
 #[tactic(auto, unfolding(checks::specs::Gate::gate, model::specs::Plan::within, model::specs::Service::activate))]

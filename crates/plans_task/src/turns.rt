@@ -24,17 +24,15 @@ pub fn change_priority(mine: bool, task: u32, priority: u32, k: Task) -> Result<
     ensures plan { plan_of result ≡ change_priority mine task priority k }
     ensures decision { IsDecision result }
 {
-    checked(is_task(task) & (priority <= 30), k.base != 0, mine)?;
+    checked(is_task(task) && priority <= 30, k.base != 0, mine)?;
     if k.active == 0 {
         return Err(Code::WContext);
     }
-    let t = task as u8;
-    let p = priority as u8;
-    let next = wanted(p, k);
+    let next = wanted(priority as u8, k);
     if next == k.priority {
         return Ok(does(Effect::Nothing));
     }
-    Ok(moves(t, with_priority(k, next)))
+    Ok(moves(task as u8, with_priority(k, next)))
 }
 
 #[tactic(auto, unfolding(checks::specs::Gate::gate, model::specs::Plan::within, model::specs::Service::tslice_ticks))]
@@ -42,9 +40,11 @@ pub fn tslice_ticks(mine: bool, level: u32, slice: u32) -> Result<Plan, Code>
     ensures plan { plan_of result ≡ tslice_ticks mine level slice }
     ensures decision { IsDecision result }
 {
-    checked(is_priority(level) & is_slice(slice), true, mine)?;
-    let l = level as u8;
-    Ok(does(Effect::Slices { level: l, slice }))
+    checked(is_priority(level) && is_slice(slice), true, mine)?;
+    Ok(does(Effect::Slices {
+        level: level as u8,
+        slice,
+    }))
 }
 
 #[tactic(auto, unfolding(checks::specs::Gate::gate, model::specs::Service::tick))]

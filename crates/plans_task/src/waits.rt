@@ -21,8 +21,7 @@ pub fn suspend(mine: bool, task: u32, k: Task) -> Result<Plan, Code>
     if k.suspended != 0 {
         return Err(Code::Overflow);
     }
-    let t = task as u8;
-    Ok(moves(t, with_suspended(k, 1)))
+    Ok(moves(task as u8, with_suspended(k, 1)))
 }
 
 #[tactic(auto, unfolding(checks::specs::Gate::gate, model::specs::Plan::within, model::specs::Service::resume))]
@@ -34,8 +33,7 @@ pub fn resume(mine: bool, task: u32, k: Task) -> Result<Plan, Code>
     if k.suspended == 0 {
         return Err(Code::WState);
     }
-    let t = task as u8;
-    Ok(moves(t, with_suspended(k, 0)))
+    Ok(moves(task as u8, with_suspended(k, 0)))
 }
 
 #[tactic(auto, unfolding(checks::specs::Gate::gate, model::specs::Service::sleep))]
@@ -81,6 +79,5 @@ pub fn release_wait(mine: bool, task: u32, k: Task) -> Result<Plan, Code>
     if k.wait.kind == NOTHING {
         return Err(Code::WContext);
     }
-    let t = task as u8;
-    Ok(moves(t, ended(k, RELEASED, 0)))
+    Ok(moves(task as u8, ended(k, RELEASED, 0)))
 }

@@ -44,16 +44,7 @@ pub const RELEASED: u8 = 11;
 pub fn level_of(x: Task) -> u8
     ensures { result ≡ level_of x }
 {
-    let active = x.active;
-    let suspended = x.suspended;
-    let kind = x.wait.kind;
-    if active == 0 {
-        return 0;
-    }
-    if suspended != 0 {
-        return 0;
-    }
-    if kind != NOTHING {
+    if x.active == 0 || x.suspended != 0 || x.wait.kind != NOTHING {
         return 0;
     }
     x.priority

@@ -2,8 +2,7 @@
 -- the same rows, since every state that a list reaches from the fresh one is sound. It rests on Answered, soundness and tested.
 use Prim.Native.Nat.{ℕ, ◌+◌, ◌<◌, ◌≤◌}
 use mathlib.Core.Path.{◌≡◌, refl, ap, sym, ◌∙◌}
-use mathlib.Core.Bool.{Bool}
-use Rattle.std.specs.Prelude.{◌≢◌, Option, Some, None, Result, Ok, Err}
+use Rattle.std.specs.Prelude.{Some, None, Ok, Err}
 use mathlib.Core.List.{List, ◌∷◌, ◌++◌, map}
 use native.Mathlib.Omega.{arith}
 use lib.ListN.{length, take, length-append, length-take, length-map}
@@ -23,7 +22,7 @@ use Rattle.runner.specs.declared.Refusal.{Refusal}
 use Rattle.runner.specs.declared.Refusal.TheVariants.{TooLong, Unreadable, Short}
 use Rattle.walk.specs.Script.{Script, done, fault, next, script_in, script_of, fault_of}
 use Rattle.walk.specs.Rows.{Row, rows_by, rows_text, text_of}
-use Rattle.runner.specs.Kept.{kept_rows, keep, Answered, Plays}
+use Rattle.runner.specs.Kept.{kept_rows, keep, Plays}
 use Rattle.runner.specs.Outcome.{judged, ran_of}
 use Rattle.runner.proofs.Scripts.{rows_kept}
 use Rattle.runner.proofs.Answered.{all_kept}

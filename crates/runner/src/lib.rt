@@ -45,11 +45,13 @@ fn play(file: &[u8], wide: bool, h: usize, kept: &mut Kept) -> Result<Played, Re
     // by hand: each turn goes on by the length of the line that it reads
     let mut at = h;
     while at < file.len() {
-        let Some(Line {
-            context,
-            call,
-            next,
-        }) = read_line(&file[at..], wide)
+        let Some(
+            Line {
+                context,
+                call,
+                next,
+            },
+        ) = read_line(&file[at..], wide)
         else {
             return Err(Refusal::Unreadable(n + 2));
         };
@@ -101,9 +103,11 @@ fn number(r: Result<usize, Refusal>) -> i64
 {
     match r {
         Ok(n) => n as i64,
-        Err(Refusal::TooLong) => -1,
-        Err(Refusal::Unreadable(line)) => 0 - ((line + 10) as i64),
-        Err(Refusal::Short) => -2,
+        Err(refusal) => match refusal {
+            Refusal::TooLong => -1,
+            Refusal::Unreadable(line) => 0 - ((line + 10) as i64),
+            Refusal::Short => -2,
+        },
     }
 }
 

@@ -78,7 +78,7 @@ fn look(s: &State) -> Seen
     }
 }
 
-// ---- slices, counts, flags and data queues
+// ---- slices, counts, flags and data queues. Joined by `&` and not by `all`, so that no walk jumps at a test: most states are sound
 #[tactic(auto, using(crate::proofs::Tables::below_on, crate::proofs::Tables::below_none))]
 fn slices_sound(numbers: &Numbers) -> bool
     ensures { result ≡ below 31 (slice_at numbers.now) }
@@ -154,7 +154,7 @@ fn stocks_sound(numbers: &Numbers, waits: &[Queue]) -> bool
 }
 
 // ---- the state
-// Whether the tables have their places. So their types say: of these three functions no code is left.
+// Whether the tables have their places. So their types say, so that the compiler knows what each test here answers.
 fn has_places<T>(xs: &[T], n: usize) -> bool
     ensures { result ≡ eqb (length xs.now) n }
 {

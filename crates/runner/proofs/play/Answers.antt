@@ -8,7 +8,7 @@ use Rattle.runner.proofs.Playing.{Left}
 use Rattle.runner.proofs.play.Goals as goal
 
 pub loop-at-init : goal.loop-at-init
-loop-at-init c = law.starts _ _ _ _ c.requires.0 c.requires.1 c.requires.3
+loop-at-init c = rw c.fresh-s.ensures (law.starts _ _ _ _ c.requires.0 c.requires.1 c.requires.3)
 
 pub overflow_add-result : goal.overflow_add-result
 overflow_add-result c = record { fits = omega (arith, law.few _ _ _ _ _ _ _ _ _ c.requires.2 c.loop-at.invariant c.loop-at-test.true) }
@@ -35,7 +35,7 @@ pub loop-at-smaller : goal.loop-at-smaller
 loop-at-smaller c = let w = law.within _ _ _ _ _ _ _ _ _ c.requires.2 c.loop-at.invariant c.loop-at-test.true _ (sym (part_of (line_of c.args.wide) c.args.file.now c.loop-at.at c.read_line.ensures) ∙ c.in-Some.is) in omega (arith, w.0, w.1)
 
 pub loop-at-preserved : goal.loop-at-preserved
-loop-at-preserved c = law.turns _ _ _ _ _ _ _ _ _ c.requires.2 c.loop-at.invariant c.loop-at-test.true _ (sym (part_of (line_of c.args.wide) c.args.file.now c.loop-at.at c.read_line.ensures) ∙ c.in-Some.is) _ _ c.step_in-answer.ensures _ _ _ c.slot-v.ensures c.keep.ensures c.row_width-total.ensures
+loop-at-preserved c = law.turns _ _ _ _ _ _ _ _ _ c.requires.2 c.loop-at.invariant c.loop-at-test.true _ (sym (part_of (line_of c.args.wide) c.args.file.now c.loop-at.at c.read_line.ensures) ∙ c.in-Some.is) _ _ c.step_in-code.ensures _ _ _ c.slot.ensures c.keep.ensures c.row_width-total.ensures
 
 pub returns : goal.returns
 returns c = law.ends _ _ _ _ _ _ _ _ _ c.requires.2 c.loop-at.invariant _ c.loop-at-test.false refl refl
