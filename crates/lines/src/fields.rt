@@ -101,7 +101,7 @@ fn comma_field(s: &[u8], takes: Takes) -> Option<Number>
 pub(crate) fn line_end(s: &[u8]) -> Option<usize>
     ensures { result ≡ end_of s.now }
 {
-    if s.len() == 0 {
+    if s.is_empty() {
         return Some(0);
     }
     if begins(s, b"\n") {

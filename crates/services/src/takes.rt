@@ -15,15 +15,13 @@ pub enum Takes {
 fn takes_a(number: u32) -> Takes
     ensures { result ≡ takes_at number 0 }
 {
-    if 41 < number {
-        return Takes::Blank;
-    }
     match number {
         0 => Takes::Blank,
         5 => Takes::Blank, // tn_task_exit
         9 => Takes::Timeout, // tn_task_sleep: timeout
         16 => Takes::Blank, // tn_tick_int_processing
-        _ => Takes::Plain,
+        1..=41 => Takes::Plain,
+        _ => Takes::Blank,
     }
 }
 

@@ -41,7 +41,7 @@ pub fn read_number(s: &[u8]) -> Option<Number>
         }
         let digit = u32::from(*b - b'0');
         value = value.checked_mul(10)?.checked_add(digit)?;
-        n = n + 1;
+        n += 1;
     }
     numeral(byte_at(s, 0), value, n)
 }

@@ -21,7 +21,7 @@ pub fn begins(s: &[u8], t: &[u8]) -> bool
     // all bytes are looked at, so that they are compared several at a time
     let mut same = true;
     for (x, y) in s.iter().zip(t) {
-        same = same & (*x == *y);
+        same &= *x == *y;
     }
     same
 }

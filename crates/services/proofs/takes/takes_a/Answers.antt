@@ -10,9 +10,9 @@ use Rattle.services.proofs.Numbers.{has, below}
 use Rattle.services.proofs.Taken.{past_table, others_take}
 use Rattle.services.proofs.takes.takes_a.Goals as goal
 
-pub returns-then-number-gt41 : goal.returns-then-number-gt41
-returns-then-number-gt41 c = sym (past_table _ 0 (omega (arith, c.if-number-gt41.true)))
+pub returns-in-1-to-41 : goal.returns-in-1-to-41
+unfolding takes_at takes_in table has below
+returns-in-1-to-41 c = sym (others_take (0 ∷ 5 ∷ 9 ∷ 16 ∷ []) 0 Plain tt _ c.in-1-to-41.in_default-own.rest (omega arith))
 
 pub returns-in_default : goal.returns-in_default
-unfolding takes_at takes_in table has below
-returns-in_default c = sym (others_take (0 ∷ 5 ∷ 9 ∷ 16 ∷ []) 0 Plain tt _ c.in_default.in_default-own.rest (omega (arith, c.if-number-gt41.false)))
+returns-in_default c = sym (past_table _ 0 (omega arith))
