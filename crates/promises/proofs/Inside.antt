@@ -37,8 +37,9 @@ use Rattle.step.specs.contracts as step
 use Rattle.step.proofs as kept_step
 use Rattle.kernel.specs.contracts as kernel
 use Rattle.kernel.proofs as kept_kernel
+use Rattle.step.specs.Answer.{answer_of}
 use Rattle.promises.specs.Tight.{Promise}
-use Rattle.promises.proofs.Laws.{of, plain, result, decided, buffer, answers}
+use Rattle.promises.proofs.Laws.{of, plain, twofold, result, decided, buffer, answers}
 
 pub of_records : List Promise
 of_records =
@@ -79,8 +80,6 @@ of_rows =
 
 pub of_places : List Promise
 of_places =
-    of places.read.signature (λ M 𝓤 𝓛. places.read.clauses 𝓛) _ (λ M. kept_places.read.Met.met) (λ w κs a g h o p. plain w result) ∷
-    of places.put.signature (λ M 𝓤 𝓛. places.put.clauses 𝓛) _ (λ M. kept_places.put.Met.met) (λ w κs a g h o p. plain w buffer) ∷
     of places.elements.element_at.signature (λ M 𝓤 𝓛. places.elements.element_at.clauses 𝓛) _ (λ M. kept_places.elements.element_at.Met.met) (λ w κs a g h o p. plain w result) ∷
     of places.elements.put_element.signature (λ M 𝓤 𝓛. places.elements.put_element.clauses 𝓛) _ (λ M. kept_places.elements.put_element.Met.met) (λ w κs a g h o p. plain w buffer) ∷
     of places.elements.pull_elements.signature (λ M 𝓤 𝓛. places.elements.pull_elements.clauses 𝓛) _ (λ M. kept_places.elements.pull_elements.Met.met) (λ w κs a g h o p. plain w buffer) ∷
@@ -125,44 +124,44 @@ of_checks =
 
 pub of_plans_task : List Promise
 of_plans_task =
-    of plans_task.life.create.signature (λ M 𝓤 𝓛. plans_task.life.create.clauses 𝓛) _ (λ M. kept_plans_task.life.create.Met.met) (λ w κs a g h o p. plain w (λ x y. decided x.plan x.decision y.plan y.decision)) ∷
-    of plans_task.life.delete.signature (λ M 𝓤 𝓛. plans_task.life.delete.clauses 𝓛) _ (λ M. kept_plans_task.life.delete.Met.met) (λ w κs a g h o p. plain w (λ x y. decided x.plan x.decision y.plan y.decision)) ∷
-    of plans_task.life.activate.signature (λ M 𝓤 𝓛. plans_task.life.activate.clauses 𝓛) _ (λ M. kept_plans_task.life.activate.Met.met) (λ w κs a g h o p. plain w (λ x y. decided x.plan x.decision y.plan y.decision)) ∷
-    of plans_task.life.exit.signature (λ M 𝓤 𝓛. plans_task.life.exit.clauses 𝓛) _ (λ M. kept_plans_task.life.exit.Met.met) (λ w κs a g h o p. plain w (λ x y. decided x.plan x.decision y.plan y.decision)) ∷
-    of plans_task.life.terminate.signature (λ M 𝓤 𝓛. plans_task.life.terminate.clauses 𝓛) _ (λ M. kept_plans_task.life.terminate.Met.met) (λ w κs a g h o p. plain w (λ x y. decided x.plan x.decision y.plan y.decision)) ∷
-    of plans_task.ready.ready_ticks.signature (λ M 𝓤 𝓛. plans_task.ready.ready_ticks.clauses 𝓛) _ (λ M. kept_plans_task.ready.ready_ticks.Met.met) (λ w κs a g h o p. plain w (λ x y. decided x.plan x.decision y.plan y.decision)) ∷
-    of plans_task.turns.change_priority.signature (λ M 𝓤 𝓛. plans_task.turns.change_priority.clauses 𝓛) _ (λ M. kept_plans_task.turns.change_priority.Met.met) (λ w κs a g h o p. plain w (λ x y. decided x.plan x.decision y.plan y.decision)) ∷
-    of plans_task.turns.tslice_ticks.signature (λ M 𝓤 𝓛. plans_task.turns.tslice_ticks.clauses 𝓛) _ (λ M. kept_plans_task.turns.tslice_ticks.Met.met) (λ w κs a g h o p. plain w (λ x y. decided x.plan x.decision y.plan y.decision)) ∷
-    of plans_task.turns.tick.signature (λ M 𝓤 𝓛. plans_task.turns.tick.clauses 𝓛) _ (λ M. kept_plans_task.turns.tick.Met.met) (λ w κs a g h o p. plain w (λ x y. decided x.plan x.decision y.plan y.decision)) ∷
-    of plans_task.waits.suspend.signature (λ M 𝓤 𝓛. plans_task.waits.suspend.clauses 𝓛) _ (λ M. kept_plans_task.waits.suspend.Met.met) (λ w κs a g h o p. plain w (λ x y. decided x.plan x.decision y.plan y.decision)) ∷
-    of plans_task.waits.resume.signature (λ M 𝓤 𝓛. plans_task.waits.resume.clauses 𝓛) _ (λ M. kept_plans_task.waits.resume.Met.met) (λ w κs a g h o p. plain w (λ x y. decided x.plan x.decision y.plan y.decision)) ∷
-    of plans_task.waits.sleep.signature (λ M 𝓤 𝓛. plans_task.waits.sleep.clauses 𝓛) _ (λ M. kept_plans_task.waits.sleep.Met.met) (λ w κs a g h o p. plain w (λ x y. decided x.plan x.decision y.plan y.decision)) ∷
-    of plans_task.waits.wakeup.signature (λ M 𝓤 𝓛. plans_task.waits.wakeup.clauses 𝓛) _ (λ M. kept_plans_task.waits.wakeup.Met.met) (λ w κs a g h o p. plain w (λ x y. decided x.plan x.decision y.plan y.decision)) ∷
-    of plans_task.waits.release_wait.signature (λ M 𝓤 𝓛. plans_task.waits.release_wait.clauses 𝓛) _ (λ M. kept_plans_task.waits.release_wait.Met.met) (λ w κs a g h o p. plain w (λ x y. decided x.plan x.decision y.plan y.decision)) ∷
+    of plans_task.life.create.signature (λ M 𝓤 𝓛. plans_task.life.create.clauses 𝓛) _ (λ M. kept_plans_task.life.create.Met.met) (λ w κs a g h o p. twofold w decided) ∷
+    of plans_task.life.delete.signature (λ M 𝓤 𝓛. plans_task.life.delete.clauses 𝓛) _ (λ M. kept_plans_task.life.delete.Met.met) (λ w κs a g h o p. twofold w decided) ∷
+    of plans_task.life.activate.signature (λ M 𝓤 𝓛. plans_task.life.activate.clauses 𝓛) _ (λ M. kept_plans_task.life.activate.Met.met) (λ w κs a g h o p. twofold w decided) ∷
+    of plans_task.life.exit.signature (λ M 𝓤 𝓛. plans_task.life.exit.clauses 𝓛) _ (λ M. kept_plans_task.life.exit.Met.met) (λ w κs a g h o p. twofold w decided) ∷
+    of plans_task.life.terminate.signature (λ M 𝓤 𝓛. plans_task.life.terminate.clauses 𝓛) _ (λ M. kept_plans_task.life.terminate.Met.met) (λ w κs a g h o p. twofold w decided) ∷
+    of plans_task.ready.ready_ticks.signature (λ M 𝓤 𝓛. plans_task.ready.ready_ticks.clauses 𝓛) _ (λ M. kept_plans_task.ready.ready_ticks.Met.met) (λ w κs a g h o p. twofold w decided) ∷
+    of plans_task.turns.change_priority.signature (λ M 𝓤 𝓛. plans_task.turns.change_priority.clauses 𝓛) _ (λ M. kept_plans_task.turns.change_priority.Met.met) (λ w κs a g h o p. twofold w decided) ∷
+    of plans_task.turns.tslice_ticks.signature (λ M 𝓤 𝓛. plans_task.turns.tslice_ticks.clauses 𝓛) _ (λ M. kept_plans_task.turns.tslice_ticks.Met.met) (λ w κs a g h o p. twofold w decided) ∷
+    of plans_task.turns.tick.signature (λ M 𝓤 𝓛. plans_task.turns.tick.clauses 𝓛) _ (λ M. kept_plans_task.turns.tick.Met.met) (λ w κs a g h o p. twofold w decided) ∷
+    of plans_task.waits.suspend.signature (λ M 𝓤 𝓛. plans_task.waits.suspend.clauses 𝓛) _ (λ M. kept_plans_task.waits.suspend.Met.met) (λ w κs a g h o p. twofold w decided) ∷
+    of plans_task.waits.resume.signature (λ M 𝓤 𝓛. plans_task.waits.resume.clauses 𝓛) _ (λ M. kept_plans_task.waits.resume.Met.met) (λ w κs a g h o p. twofold w decided) ∷
+    of plans_task.waits.sleep.signature (λ M 𝓤 𝓛. plans_task.waits.sleep.clauses 𝓛) _ (λ M. kept_plans_task.waits.sleep.Met.met) (λ w κs a g h o p. twofold w decided) ∷
+    of plans_task.waits.wakeup.signature (λ M 𝓤 𝓛. plans_task.waits.wakeup.clauses 𝓛) _ (λ M. kept_plans_task.waits.wakeup.Met.met) (λ w κs a g h o p. twofold w decided) ∷
+    of plans_task.waits.release_wait.signature (λ M 𝓤 𝓛. plans_task.waits.release_wait.clauses 𝓛) _ (λ M. kept_plans_task.waits.release_wait.Met.met) (λ w κs a g h o p. twofold w decided) ∷
     []
 
 pub of_plans_semaphore : List Promise
 of_plans_semaphore =
-    of plans_semaphore.sem_create.signature (λ M 𝓤 𝓛. plans_semaphore.sem_create.clauses 𝓛) _ (λ M. kept_plans_semaphore.sem_create.Met.met) (λ w κs a g h o p. plain w (λ x y. decided x.plan x.decision y.plan y.decision)) ∷
-    of plans_semaphore.sem_delete.signature (λ M 𝓤 𝓛. plans_semaphore.sem_delete.clauses 𝓛) _ (λ M. kept_plans_semaphore.sem_delete.Met.met) (λ w κs a g h o p. plain w (λ x y. decided x.plan x.decision y.plan y.decision)) ∷
-    of plans_semaphore.signal.signature (λ M 𝓤 𝓛. plans_semaphore.signal.clauses 𝓛) _ (λ M. kept_plans_semaphore.signal.Met.met) (λ w κs a g h o p. plain w (λ x y. decided x.plan x.decision y.plan y.decision)) ∷
-    of plans_semaphore.acquire.signature (λ M 𝓤 𝓛. plans_semaphore.acquire.clauses 𝓛) _ (λ M. kept_plans_semaphore.acquire.Met.met) (λ w κs a g h o p. plain w (λ x y. decided x.plan x.decision y.plan y.decision)) ∷
-    of plans_semaphore.polling.signature (λ M 𝓤 𝓛. plans_semaphore.polling.clauses 𝓛) _ (λ M. kept_plans_semaphore.polling.Met.met) (λ w κs a g h o p. plain w (λ x y. decided x.plan x.decision y.plan y.decision)) ∷
+    of plans_semaphore.sem_create.signature (λ M 𝓤 𝓛. plans_semaphore.sem_create.clauses 𝓛) _ (λ M. kept_plans_semaphore.sem_create.Met.met) (λ w κs a g h o p. twofold w decided) ∷
+    of plans_semaphore.sem_delete.signature (λ M 𝓤 𝓛. plans_semaphore.sem_delete.clauses 𝓛) _ (λ M. kept_plans_semaphore.sem_delete.Met.met) (λ w κs a g h o p. twofold w decided) ∷
+    of plans_semaphore.signal.signature (λ M 𝓤 𝓛. plans_semaphore.signal.clauses 𝓛) _ (λ M. kept_plans_semaphore.signal.Met.met) (λ w κs a g h o p. twofold w decided) ∷
+    of plans_semaphore.acquire.signature (λ M 𝓤 𝓛. plans_semaphore.acquire.clauses 𝓛) _ (λ M. kept_plans_semaphore.acquire.Met.met) (λ w κs a g h o p. twofold w decided) ∷
+    of plans_semaphore.polling.signature (λ M 𝓤 𝓛. plans_semaphore.polling.clauses 𝓛) _ (λ M. kept_plans_semaphore.polling.Met.met) (λ w κs a g h o p. twofold w decided) ∷
     []
 
 pub of_plans_flag : List Promise
 of_plans_flag =
     of plans_flag.flag_subject.signature (λ M 𝓤 𝓛. plans_flag.flag_subject.clauses 𝓛) _ (λ M. kept_plans_flag.flag_subject.Met.met) (λ w κs a g h o p. plain w result) ∷
-    of plans_flag.flag_plan.signature (λ M 𝓤 𝓛. plans_flag.flag_plan.clauses 𝓛) _ (λ M. kept_plans_flag.flag_plan.Met.met) (λ w κs a g h o p. plain w (λ x y. decided x.plan x.decision y.plan y.decision)) ∷
+    of plans_flag.flag_plan.signature (λ M 𝓤 𝓛. plans_flag.flag_plan.clauses 𝓛) _ (λ M. kept_plans_flag.flag_plan.Met.met) (λ w κs a g h o p. twofold w decided) ∷
     []
 
 pub of_plans_queue : List Promise
-of_plans_queue = of plans_queue.queue_plan.signature (λ M 𝓤 𝓛. plans_queue.queue_plan.clauses 𝓛) _ (λ M. kept_plans_queue.queue_plan.Met.met) (λ w κs a g h o p. plain w (λ x y. decided x.plan x.decision y.plan y.decision)) ∷ []
+of_plans_queue = of plans_queue.queue_plan.signature (λ M 𝓤 𝓛. plans_queue.queue_plan.clauses 𝓛) _ (λ M. kept_plans_queue.queue_plan.Met.met) (λ w κs a g h o p. twofold w decided) ∷ []
 
 pub of_plans : List Promise
 of_plans =
-    of plans.queue.queue_plan_in.signature (λ M 𝓤 𝓛. plans.queue.queue_plan_in.clauses 𝓛) _ (λ M. kept_plans.queue.queue_plan_in.Met.met) (λ w κs a g h o p. plain w (λ x y. decided x.plan x.decision y.plan y.decision)) ∷
-    of plans.plan_in.signature (λ M 𝓤 𝓛. plans.plan_in.clauses 𝓛) _ (λ M. kept_plans.plan_in.Met.met) (λ w κs a g h o p. plain w (λ x y. decided x.plan x.decision y.plan y.decision)) ∷
+    of plans.queue.queue_plan_in.signature (λ M 𝓤 𝓛. plans.queue.queue_plan_in.clauses 𝓛) _ (λ M. kept_plans.queue.queue_plan_in.Met.met) (λ w κs a g h o p. twofold w decided) ∷
+    of plans.plan_in.signature (λ M 𝓤 𝓛. plans.plan_in.clauses 𝓛) _ (λ M. kept_plans.plan_in.Met.met) (λ w κs a g h o p. twofold w decided) ∷
     []
 
 pub of_crossing : List Promise
@@ -208,7 +207,7 @@ of_carry =
 
 pub of_step : List Promise
 of_step =
-    of step.step_in.signature (λ M 𝓤 𝓛. step.step_in.clauses 𝓛) _ (λ M. kept_step.step_in.Met.met) (λ w κs a g h o p. plain w (answers (λ r. record { code = r.code; running = r.running; value = r.value }) (λ r. r.state) _ _)) ∷
+    of step.step_in.signature (λ M 𝓤 𝓛. step.step_in.clauses 𝓛) _ (λ M. kept_step.step_in.Met.met) (λ w κs a g h o p. plain w (answers (λ r. record { code = r.code; running = r.running; value = r.value }) (λ r. r.state) (answer_of o.0 o.1.0) (answer_of p.0 p.1.0))) ∷
     []
 
 pub of_kernel : List Promise

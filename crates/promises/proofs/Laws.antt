@@ -1,10 +1,10 @@
 -- The law behind every row of the table: what equals the same is the same, and so is what is read off it.
 -- Rests on the statement in specs/Tight.
-use mathlib.Core.Path.{◌≡◌, refl, sym, ◌∙◌, ap}
+use mathlib.Core.Path.{◌≡◌, sym, ◌∙◌, ap}
 use mathlib.Core.Bool.{true≢false}
 use mir.Syntax.{Callee}
 use prog.Wired as wired
-use base.Logic.{ent, emp, id⊢}
+use base.Logic.{ent, emp, sep, via, fst∗, snd∗, id⊢}
 use contract.Monad.{conj, conj_l, conj_r, fact, fact_i, fact_use}
 use contract.Lifetimes.{Lfts}
 use denote.Signature.{Signature}
@@ -15,12 +15,12 @@ use Rattle.model.specs.declared.Code.{Code}
 use Rattle.model.specs.declared.Plan.{Plan}
 use Rattle.model.specs.Code.{is_refusal}
 use Rattle.checks.specs.Gate.{plan_of, IsDecision}
-use Rattle.promises.specs.Tight.{Contract, Keeps, Outcome, clauses, Open, Coincide, Tight, Promise}
+use Rattle.promises.specs.Tight.{told, Contract, Keeps, Outcome, clauses, Open, Coincide, Promise}
 
 -- a row whose outcomes coincide, of their types or not
 abbrev pub of :
-    (S : Signature) (c : Contract S) {name : Callee} (code : wired.Code) → Keeps S c name code →
-    ((w : World) (κs : Lfts S.lifetimes) (a : Args S κs) (g h : (clauses S c w κs a).ghost) (o p : Outcome S c κs a) → Open S c w κs a g × Coincide S c w κs a g h o p) →
+    (S : Signature) (c : Contract S) {name : Callee} (code : wired.Code) → Keeps (told S) c name code →
+    ((w : World) (κs : Lfts S.lifetimes) (a : Args S κs) (g h : (clauses (told S) c w κs a).ghost) (o p : Outcome (told S) c κs a) → Open (told S) c w κs a g × Coincide (told S) c w κs a g h o p) →
     Promise
 of S c {name} code k t = record { signature = S; contract = c; name = name; code = code; kept = k; tight = λ w κs a g h o p. ((t w κs a g h o p).0, λ i j. (t w κs a g h o p).1) }
 
@@ -32,6 +32,20 @@ plain w {φ} {χ} {ψ} h = (
       fact_use w.𝓤 χ (conj_r w.𝓤 (fact w.𝓤 φ) (fact w.𝓤 χ)) (λ q.
       fact_i w.𝓤 ψ (conj w.𝓤 (fact w.𝓤 φ) (fact w.𝓤 χ)) (h p q))),
 )
+
+-- the same of a contract that is two plain facts
+pub twofold : (w : World) {φ φ₂ χ χ₂ ψ : Type 0} → (φ → φ₂ → χ → χ₂ → ψ)
+    → ent w.𝓤 (emp w.𝓤) (emp w.𝓤) × ent w.𝓤 (conj w.𝓤 (sep w.𝓤 (fact w.𝓤 φ) (fact w.𝓤 φ₂)) (sep w.𝓤 (fact w.𝓤 χ) (fact w.𝓤 χ₂))) (fact w.𝓤 ψ)
+twofold w {φ} {φ₂} {χ} {χ₂} {ψ} h =
+    let l = sep w.𝓤 (fact w.𝓤 φ) (fact w.𝓤 φ₂) in
+    let r = sep w.𝓤 (fact w.𝓤 χ) (fact w.𝓤 χ₂) in (
+      id⊢ w.𝓤 (emp w.𝓤),
+      fact_use w.𝓤 φ (via w.𝓤 l (conj_l w.𝓤 l r) (fst∗ w.𝓤 (fact w.𝓤 φ) (fact w.𝓤 φ₂))) (λ p.
+          fact_use w.𝓤 φ₂ (via w.𝓤 l (conj_l w.𝓤 l r) (snd∗ w.𝓤 (fact w.𝓤 φ) (fact w.𝓤 φ₂))) (λ p₂.
+          fact_use w.𝓤 χ (via w.𝓤 r (conj_r w.𝓤 l r) (fst∗ w.𝓤 (fact w.𝓤 χ) (fact w.𝓤 χ₂))) (λ q.
+          fact_use w.𝓤 χ₂ (via w.𝓤 r (conj_r w.𝓤 l r) (snd∗ w.𝓤 (fact w.𝓤 χ) (fact w.𝓤 χ₂))) (λ q₂.
+          fact_i w.𝓤 ψ (conj w.𝓤 l r) (h p p₂ q q₂))))),
+    )
 
 -- ---- x of one outcome and y of the other equal the definition's d; the outcome is read off
 pub fixed : {A O : Type 0} {x y d : A} (off : A → O) → x ≡ d → y ≡ d → off x ≡ off y

@@ -1,4 +1,5 @@
 pub mod Held
 pub mod Laws
+pub mod Generic
 pub mod Inside
 pub mod Outside

@@ -17,6 +17,7 @@ use Rattle.runner.specs.contracts as runner
 use Rattle.runner.proofs as kept_runner
 use Rattle.gritgarland.specs.contracts as gritgarland
 use Rattle.gritgarland.proofs as kept_gritgarland
+use Rattle.walk.specs.Turn.{turn_in}
 use Rattle.promises.specs.Tight.{Promise}
 use Rattle.promises.proofs.Laws.{of, plain, result, bounded, both, besides, answer, answers}
 
@@ -52,7 +53,7 @@ of_lines =
 
 pub of_walk : List Promise
 of_walk =
-    of walk.play_line.signature (λ M 𝓤 𝓛. walk.play_line.clauses 𝓛) _ (λ M. kept_walk.play_line.Met.met) (λ w κs a g h o p. plain w (answers (λ t. t.turn) (λ t. t.state) _ _)) ∷
+    of walk.play_line.signature (λ M 𝓤 𝓛. walk.play_line.clauses 𝓛) _ (λ M. kept_walk.play_line.Met.met) (λ w κs a g h o p. plain w (answers (λ t. t.turn) (λ t. t.state) (turn_in o.0 o.1.0) (turn_in p.0 p.1.0))) ∷
     []
 
 pub of_answers : List Promise

@@ -42,8 +42,11 @@ abbrev pub told : Signature → Ended
 told S = record { signature = S; kept = all yes S.params }
 
 -- a function's contract, as its generated module has it: `F.clauses`, over `F.signature`
+abbrev pub ContractOf : Ended → Type 2
+ContractOf E = (M : Type 1) (𝓤 : Ura M) (𝓛 : Logic 𝓤) → (Memory → SProp 𝓤) → (Routine → Fun 𝓤) → Clauses 𝓤 E
+
 abbrev pub Contract : Signature → Type 2
-Contract S = (M : Type 1) (𝓤 : Ura M) (𝓛 : Logic 𝓤) → (Memory → SProp 𝓤) → (Routine → Fun 𝓤) → Clauses 𝓤 (told S)
+Contract S = ContractOf (told S)
 
 -- v, which a parameter x of type T holds last, is of its type: if T is `&mut R`, whatever R is, v has machine values as an R.
 -- So an array has its length. To the logic it is a list of any length, and a definition that reads a table need not look past its end.
@@ -57,42 +60,43 @@ abbrev pub AllOfType : {n : ℕ} (κs : Lfts n) (ss : List (Slot n)) (a : Denots
 AllOfType κs [] a vs = Unit {2}
 AllOfType κs (s ∷ ss) a vs = OfType (s.row κs) a.0 vs.0 × AllOfType κs ss a.1 vs.1
 
-module _ (S : Signature) (c : Contract S) where
+module _ (E : Ended) (c : ContractOf E) where
   -- the function of this name keeps the contract wherever its name stands for its code, at every model of the logic: what `F.Met` shows
   abbrev pub Keeps : Callee → Code → Type 2
   Keeps name code =
       (M : Type 1) (𝓤 : Ura M) (𝓛 : Logic 𝓤) (𝓜 : Model 𝓤 𝓛.H) (𝓡 : Running 𝓤 𝓛.H 𝓜) → Wired 𝓡.env code →
-      Meets 𝓛 S (𝓡.run (𝓡.env name))
-      (closing 𝓛 (told S) (c M 𝓤 𝓛 𝓜.mem 𝓡.returns))
+      Meets 𝓛 E.signature (𝓡.run (𝓡.env name))
+      (closing 𝓛 E (c M 𝓤 𝓛 𝓜.mem 𝓡.returns))
 
   -- a result, and what every `&mut` holds last
-  abbrev pub Outcome : (κs : Lfts S.lifetimes) → Args S κs → Type 0
-  Outcome κs a = Res S κs × Lasts (told S) κs a
+  abbrev pub Outcome : (κs : Lfts E.signature.lifetimes) → Args E.signature κs → Type 0
+  Outcome κs a = Res E.signature κs × Lasts E κs a
 
-  abbrev pub clauses : (w : World) → Clauses w.𝓤 (told S)
+  abbrev pub clauses : (w : World) → Clauses w.𝓤 E
   clauses w = c w.M w.𝓤 w.𝓛 w.𝓜.mem w.𝓡.returns
 
   abbrev pub allows :
-      (w : World) (κs : Lfts S.lifetimes) (a : Args S κs) → (clauses w κs a).ghost → Outcome κs a → SProp w.𝓤
-  allows w κs a g o = (clauses w κs a).ensures g o.0 (at_exit (told S) κs a o.1)
-
-  abbrev pub Typed : (κs : Lfts S.lifetimes) (a : Args S κs) → Outcome κs a → Type 2
-  Typed κs a o = AllOfType κs S.params a o.1
+      (w : World) (κs : Lfts E.signature.lifetimes) (a : Args E.signature κs) → (clauses w κs a).ghost → Outcome κs a → SProp w.𝓤
+  allows w κs a g o = (clauses w κs a).ensures g o.0 (at_exit E κs a o.1)
 
   -- the contract asks nothing of the caller,
-  abbrev pub Open : (w : World) (κs : Lfts S.lifetimes) (a : Args S κs) → (clauses w κs a).ghost → Type 1
+  abbrev pub Open : (w : World) (κs : Lfts E.signature.lifetimes) (a : Args E.signature κs) → (clauses w κs a).ghost → Type 1
   Open w κs a g = ent w.𝓤 (emp w.𝓤) ((clauses w κs a).requires g)
 
   -- and two outcomes that it allows for the same arguments coincide,
   abbrev pub Coincide :
-      (w : World) (κs : Lfts S.lifetimes) (a : Args S κs) (g h : (clauses w κs a).ghost) → Outcome κs a → Outcome κs a → Type 1
+      (w : World) (κs : Lfts E.signature.lifetimes) (a : Args E.signature κs) (g h : (clauses w κs a).ghost) → Outcome κs a → Outcome κs a → Type 1
   Coincide w κs a g h o p = ent w.𝓤 (conj w.𝓤 (allows w κs a g o) (allows w κs a h p)) (fact w.𝓤 (o ≡ p))
+
+module _ (S : Signature) (c : Contract S) where
+  abbrev pub Typed : (κs : Lfts S.lifetimes) (a : Args S κs) → Outcome (told S) c κs a → Type 2
+  Typed κs a o = AllOfType κs S.params a o.1
 
   -- if the types allow both
   abbrev pub Tight : Type 2
   Tight =
-      (w : World) (κs : Lfts S.lifetimes) (a : Args S κs) (g h : (clauses w κs a).ghost) (o p : Outcome κs a) →
-      Open w κs a g × (Typed κs a o → Typed κs a p → Coincide w κs a g h o p)
+      (w : World) (κs : Lfts S.lifetimes) (a : Args S κs) (g h : (clauses (told S) c w κs a).ghost) (o p : Outcome (told S) c κs a) →
+      Open (told S) c w κs a g × (Typed κs a o → Typed κs a p → Coincide (told S) c w κs a g h o p)
 
 -- a function's promise: a contract that its code keeps, and that is tight
 pub record Promise : Type 3 where
@@ -100,5 +104,17 @@ pub record Promise : Type 3 where
   pub contract : Contract signature
   pub name : Callee
   pub code : Code
-  pub kept : Keeps signature contract name code
+  pub kept : Keeps (told signature) contract name code
   pub tight : Tight signature contract
+
+-- that of a function with type parameters, at each of them. What it asks is that values of the type outlive the borrow, which the compiler sees to;
+-- and of a parameter by value of that type it says nothing at the end.
+pub record GenericPromise : Type 3 where
+  pub ended : Ended
+  pub contract : ContractOf ended
+  pub name : Callee
+  pub code : Code
+  pub kept : Keeps ended contract name code
+  pub tight :
+      (w : World) (κs : Lfts ended.signature.lifetimes) (a : Args ended.signature κs) (g h : (clauses ended contract w κs a).ghost) (o p : Outcome ended contract κs a) →
+      Coincide ended contract w κs a g h o p
