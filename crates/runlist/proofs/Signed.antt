@@ -16,8 +16,9 @@ use mir.Facts.{to_z-of_z}
 use Rattle.text.specs.Decimal.{decimal}
 use Rattle.text.proofs.Digits.{width_most}
 use Rattle.model.specs.Code.{minus}
-use Rattle.runner.specs.declared.Ran.{Ran}
-use Rattle.runner.specs.declared.Ran.TheVariants.{Wrote, TooLong, Unreadable, Short}
+use Rattle.std.specs.Prelude.{Result, Ok, Err}
+use Rattle.runner.specs.declared.Refusal.{Refusal}
+use Rattle.runner.specs.declared.Refusal.TheVariants.{TooLong, Unreadable, Short}
 use Rattle.runner.specs.Outcome.{Small, ran_of, signed_of}
 use Rattle.runner.proofs.Signed as ran
 
@@ -26,12 +27,12 @@ Near : ℤ → ℕ → Type 0
 Near (pos n) room = n ≤ room
 Near (negsuc n) room = n < 2 ^ 31
 
-near : (r : Ran) (room : ℕ) → ran.Fits r room → Small r → Near (signed_of r) room
+near : (r : Result ℕ Refusal) (room : ℕ) → ran.Fits r room → Small r → Near (signed_of r) room
 unfolding Near
-near (Wrote n) room h k = h
-near TooLong room h k = omega arith
-near Short room h k = omega arith
-near (Unreadable l) room h k = let e : l + 10 ≡ suc (l + 9) = omega arith in subst (λ (n : ℕ). Near (minus n) room) (sym e) (omega arith)
+near (Ok n) room h k = h
+near (Err TooLong) room h k = omega arith
+near (Err Short) room h k = omega arith
+near (Err (Unreadable l)) room h k = let e : l + 10 ≡ suc (l + 9) = omega arith in subst (λ (n : ℕ). Near (minus n) room) (sym e) (omega arith)
 
 module _ (file : List ℕ) (room : ℕ) (few : room < 2 ^ 62) (z : ℤ) (e : z ≡ signed_of (ran_of file room)) where
   small : Near z room
