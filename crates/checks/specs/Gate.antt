@@ -15,7 +15,8 @@ abbrev pub plan_of : Result Plan Code → Plan
 plan_of (Ok p) = p
 plan_of (Err c) = refused c
 
--- a plan that is accepted has a code that does not refuse, and a refusal has one that does
+-- a plan that is accepted has a code that does not refuse, and a refusal has one that does; a clause, and no invariant of Plan: the definitions' own
+-- refusals are plans
 abbrev pub IsDecision : Result Plan Code → Type 0
 IsDecision (Ok p) = is_refusal p.code ≡ false
 IsDecision (Err c) = is_refusal c ≡ true

@@ -27,7 +27,8 @@ pub fn element_at(elements: &Elements, q: usize, i: usize) -> u32
     read(es, q * PLACES + i, 0)
 }
 
-// All places move up: the first leaves, and the last is free.
+// All places move up: the first leaves, and the last is free. As rows::close, of words: a gap is defined of numbers (model/specs/Row), so one function of
+// any type would need a second definition and a law that ties the two.
 #[tactic(auto, unfolding(model::specs::DataQueue::pulled), using(laws::proofs::Row::gap_on, laws::proofs::Row::gap_last))]
 fn pull(ps: &mut [u32])
     requires { 0 < length ps.old }

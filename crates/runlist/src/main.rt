@@ -28,6 +28,7 @@ fn read_full(input: &mut impl Read, file: &mut [u8]) -> io::Result<usize>
     Ok(n)
 }
 
+// Buffers of fixed size: what it is given is no longer, and the library takes no memory either.
 fn main(rt: HostRuntime) -> io::Result<()> {
     let mut file = [0u8; 65537];
     let n = read_full(&mut rt.reader(), &mut file)?;

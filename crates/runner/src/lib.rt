@@ -22,7 +22,7 @@ pub enum Refusal {
     Short,
 }
 
-// One byte for each call that a file can hold.
+// One byte for each call that a file can hold: an array and a count, since the runner has no heap.
 pub type Kept = [u8; 3639];
 
 // What playing a list leaves beside the kept rows: how many calls, and the answer's length.

@@ -123,7 +123,8 @@ fn flags_sound(numbers: &Numbers, waits: &[Queue]) -> bool
     sound
 }
 
-// Whether the places of a data queue hold nothing past its last element.
+// Whether the places of a data queue hold nothing past its last element: crossing's test of zeros, of words. A test of both widths would turn each
+// byte into a word first.
 #[tactic(auto, using(crossing::proofs::Steps::zeros_on, crossing::proofs::Steps::zeros_end))]
 fn is_rest_free(places: &[u32], taken: u32) -> bool
     ensures { result ≡ zeros (drop taken places.now) }

@@ -28,10 +28,7 @@ pub fn semaphore_at(s: &State, m: usize) -> Semaphore
 fn flag_row(f: usize) -> usize
     ensures { result ≡ flag_row f }
 {
-    if 8 < f {
-        return 0;
-    }
-    records::flag_row(f as u8) as usize
+    u8::try_from(f).map_or(0, records::flag_row) as usize
 }
 
 pub fn flag_at(s: &State, f: usize) -> Flag
@@ -49,10 +46,7 @@ pub fn flag_at(s: &State, f: usize) -> Flag
 fn queue_row(q: usize) -> usize
     ensures { result ≡ queue_row q }
 {
-    if 8 < q {
-        return 0;
-    }
-    records::queue_row(q as u8) as usize
+    u8::try_from(q).map_or(0, records::queue_row) as usize
 }
 
 // The data queue that a call names, and the record of who waits there first.

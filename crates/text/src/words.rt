@@ -1,4 +1,5 @@
-// Bytes and fixed words: looked for in a part of a file, and put into a buffer.
+// Bytes and fixed words: looked for in a part of a file, and put into a buffer. A writer is given the buffer and a place, and no struct of
+// the two: what is promised of each (specs/Statement) speaks of any buffer and any place.
 // Each function is a definition of specs/Bytes, for every value.
 ghost use Rattle.std.specs.Prelude.{◌≡◌, [], ◌∷◌, ◌+◌, get_or, leb};
 ghost use Rattle.text.specs.Bytes.{begins, put, place_after};
