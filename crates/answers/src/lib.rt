@@ -1,5 +1,5 @@
 // The text of an answer's rows. A code is a number from 0 to 13, a row without its call's number is kept as one byte:
-// by hand, since they are the runner's memory of its rows, and it has no heap. A row's length is known before it is written,
+// by hand, since they are the runner's memory of its rows, and it has no heap; a code's number gives a row's width, too. A row's length is known before it is written,
 // and a row without room is not. Rests on text.
 #![tactic(auto)]
 
@@ -53,7 +53,7 @@ fn put_slot(buf: &mut [u8], at: usize, v: u8) -> usize
     put_decimal(buf, at, u32::from(v - 12))
 }
 
-// ---- one row of the answer
+// ---- one row of the answer, of a call's number, its code's number and the task that runs; into a buffer from a place on, as everything that text puts
 pub fn row_width(n: u32, v: u8, running: u8) -> usize
     ensures { (result ≡ length (kept_text n v running)) × (result ≤ 20) }
 {
@@ -99,9 +99,7 @@ fn base(code: Code) -> u8
         Code::WrongParam => 50,
         Code::IlUse => 25,
         Code::NoExs => 0,
-        Code::Dlt => 225,
-        Code::Released => 225,
-        Code::Unsound => 225,
+        Code::Dlt | Code::Released | Code::Unsound => 225,
     }
 }
 

@@ -19,22 +19,19 @@ fn say_code(rt: &impl Print, text: &str, code: i32) -> io::Result<()> {
 
 // The state after a call from a task.
 fn asked(s: State, a: Call) -> State {
-    let r = kernel::call(s, Context::T, a);
-    r.state
+    kernel::call(s, Context::T, a).state
 }
 
 // The state after so many ticks.
-fn ticked(s: State, n: u32) -> State {
-    let mut now = s;
+fn ticked(mut s: State, n: u32) -> State {
     for _ in 0..n {
-        let r = kernel::call(now, Context::I, Call::TickIntProcessing);
-        now = r.state;
+        s = kernel::call(s, Context::I, Call::TickIntProcessing).state;
     }
-    now
+    s
 }
 
 fn running(s: State) -> u32 {
-    kernel::running(s) as u32
+    u32::from(kernel::running(s))
 }
 
 fn remaining(s: State, t: usize) -> u32 {

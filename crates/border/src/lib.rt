@@ -32,7 +32,7 @@ fn context_of(n: u32) -> Option<Context>
     }
 }
 
-// The number of a code; a function and no `From`, which would have to stand in model, where no number of C's does.
+// The number of a code, which C is given; a function and no `From`, which would have to stand in model, where no function does.
 fn code_number(code: Code) -> i32
     ensures { result ≡ number code }
 {

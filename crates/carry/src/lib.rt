@@ -85,10 +85,10 @@ pub fn carry(s: &mut State, run: u8, e: Effect)
             put(&mut s.numbers.attributes, flag as usize, attributes);
             put(&mut s.numbers.bits, flag as usize, bits);
         }
-        Effect::Queues { .. } => carry_queue(s, e),
-        Effect::Removes { .. } => carry_queue(s, e),
-        Effect::Stores { .. } => carry_queue(s, e),
-        Effect::Takes { .. } => carry_queue(s, e),
-        Effect::Refills { .. } => carry_queue(s, e),
+        Effect::Queues { .. }
+        | Effect::Removes { .. }
+        | Effect::Stores { .. }
+        | Effect::Takes { .. }
+        | Effect::Refills { .. } => carry_queue(s, e),
     }
 }

@@ -13,7 +13,8 @@ use model::{Code, Effect, Plan, Task};
 use records::ENDLESS;
 
 // ---- ranges
-// Each is one call of the one test with its own limits: a constant stands in the code where a reader compares it with the paper.
+// Each is one test with its own limits, most by one call of `within`: a constant stands where a reader compares it with the paper. What they have put in
+// range the plans narrow by `as`, which the proof shows to lose nothing; `try_from` would have an arm that nothing reaches.
 #[tactic(auto, unfolding(model::specs::Plan::within))]
 fn within(low: u32, n: u32, top: u32) -> bool
     ensures { result ≡ within low n top }

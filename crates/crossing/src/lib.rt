@@ -65,15 +65,14 @@ fn cross(q: &[u8; 24], l: usize, wants: &mut [u8]) -> bool
 
 // Whether the queues cross off all that is wanted.
 #[tactic(auto, using(crate::proofs::Steps::rows_fail, crate::proofs::Steps::rows_crossed, crate::proofs::Steps::rows_done))]
-pub fn cross_all(ls: &[Queue], wants: [u8; 25]) -> bool
+pub fn cross_all(ls: &[Queue], mut wants: [u8; 25]) -> bool
     ensures { result ≡ crosses_all 0 ls.now wants }
 {
-    let mut rest = wants;
     for (l, q) in ls.iter().enumerate() {
-        let crossed = cross(&q.places, l, &mut rest);
+        let crossed = cross(&q.places, l, &mut wants);
         if !crossed {
             return false;
         }
     }
-    are_zeros(&rest)
+    are_zeros(&wants)
 }

@@ -62,15 +62,14 @@ fn call_in(s: &mut State, c: Context, a: Call) -> Stepped
 }
 
 // Any state, by value.
-pub fn call(s: State, c: Context, a: Call) -> Answer
+pub fn call(mut s: State, c: Context, a: Call) -> Answer
     ensures { result ≡ call s c a }
 {
-    let mut state = s;
-    let r = call_in(&mut state, c, a);
+    let r = call_in(&mut s, c, a);
     Answer {
         code: r.code,
         running: r.running,
         value: r.value,
-        state,
+        state: s,
     }
 }

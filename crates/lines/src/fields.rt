@@ -126,7 +126,7 @@ fn last_field(s: &[u8], takes: Takes) -> Option<Number>
     })
 }
 
-// ---- c and d: whether the line is wide and which service it names go together here alone, as two plain values
+// ---- c and d: whether the line is wide and which service it names go together here alone; a struct of the two would be made for three calls
 // What stands before the last field: c and its comma, or nothing.
 #[tactic(auto, unfolding(crate::specs::Fields::middle_of))]
 fn middle(s: &[u8], wide: bool, number: u32) -> Option<Number>

@@ -1,5 +1,6 @@
 // The plans of the services on event flags, and the dispatch over them; the poll has a file of its own, where an edit can name its lines.
-// Each function is a definition of model/specs/Service or Call, for every value; it rests on checks and records.
+// Each function is a definition of model/specs/Service or Call, for every value, and takes what that takes, one by one: a struct would be made
+// for each; it rests on checks and records.
 #![tactic(auto)]
 
 ghost use Rattle.std.specs.Prelude.{◌≡◌};
@@ -41,7 +42,7 @@ fn is_occupied(y: Flag) -> bool
 fn meets_first(bits: u32, k: Task, y: Flag) -> bool
     ensures { result ≡ meets_first bits k y }
 {
-    y.first != 0 && is_met(k.wait.pattern, k.wait.mode as u32, bits)
+    y.first != 0 && is_met(k.wait.pattern, u32::from(k.wait.mode), bits)
 }
 
 // A wait or poll is met at once: the bits are in its answer.

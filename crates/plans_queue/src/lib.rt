@@ -1,5 +1,6 @@
 // The plans of the services on data queues, and the dispatch over them.
-// Each function is a definition of model/specs/Service or Call, for every value; it rests on checks and records.
+// Each function is a definition of model/specs/Service or Call, for every value, and takes what that takes, one by one: a struct would be made
+// for each; it rests on checks and records.
 #![tactic(auto)]
 
 ghost use Rattle.std.specs.Prelude.{◌≡◌, false, IfSome};

@@ -177,7 +177,6 @@ of_sound_parts =
     of sound_parts.queue.is_queue_wait.signature (λ M 𝓤 𝓛. sound_parts.queue.is_queue_wait.clauses 𝓛) _ (λ M. kept_sound_parts.queue.is_queue_wait.Met.met) (λ w κs a g h o p. plain w result) ∷
     of sound_parts.queue.is_unserved.signature (λ M 𝓤 𝓛. sound_parts.queue.is_unserved.clauses 𝓛) _ (λ M. kept_sound_parts.queue.is_unserved.Met.met) (λ w κs a g h o p. plain w result) ∷
     of sound_parts.record.task_sound.signature (λ M 𝓤 𝓛. sound_parts.record.task_sound.clauses 𝓛) _ (λ M. kept_sound_parts.record.task_sound.Met.met) (λ w κs a g h o p. plain w result) ∷
-    of sound_parts.record.slice_sound.signature (λ M 𝓤 𝓛. sound_parts.record.slice_sound.clauses 𝓛) _ (λ M. kept_sound_parts.record.slice_sound.Met.met) (λ w κs a g h o p. plain w result) ∷
     of sound_parts.record.charge_sound.signature (λ M 𝓤 𝓛. sound_parts.record.charge_sound.clauses 𝓛) _ (λ M. kept_sound_parts.record.charge_sound.Met.met) (λ w κs a g h o p. plain w result) ∷
     of sound_parts.record.count_sound.signature (λ M 𝓤 𝓛. sound_parts.record.count_sound.clauses 𝓛) _ (λ M. kept_sound_parts.record.count_sound.Met.met) (λ w κs a g h o p. plain w result) ∷
     of sound_parts.record.is_origin.signature (λ M 𝓤 𝓛. sound_parts.record.is_origin.clauses 𝓛) _ (λ M. kept_sound_parts.record.is_origin.Met.met) (λ w κs a g h o p. plain w result) ∷

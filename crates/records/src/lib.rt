@@ -216,7 +216,7 @@ pub fn told(news: News, x: Task) -> Task
     match news {
         News::Deleted => ended(x, DLT, 0),
         News::Bits { bits } => {
-            if is_met(x.wait.pattern, x.wait.mode as u32, bits) {
+            if is_met(x.wait.pattern, u32::from(x.wait.mode), bits) {
                 return ended(x, SERVED, bits);
             }
             x

@@ -61,7 +61,7 @@ module _ (file : List ℕ) (room : ℕ) where
 
       pub faulty : (f : Refusal) (ks : List ℕ) → Plays (Err f) ks (script_in x.wide x.next file 2) → Err f ≡ ran_of file room
       unfolding judged
-      faulty f ks p = let z : (fault_of (script_in x.wide x.next file 2) ≡ 0 → ⊥) = λ q. omega (arith, p.1) in rw (judges, script, p.0, ne_eqb _ _ z)
+      faulty f ks p = let z : (fault_of (script_in x.wide x.next file 2) ≡ 0 → ⊥) = λ q. omega (arith, p.2) in rw (judges, script, p.1, ne_eqb _ _ z)
 
       module _ (r : Played) (ks : List ℕ) (p : Plays (Ok r) ks (script_in x.wide x.next file 2)) where
         none : fault_of (script_in x.wide x.next file 2) ≡ 0

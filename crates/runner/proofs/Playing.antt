@@ -66,7 +66,7 @@ module _ (wide : Bool) (file : List ℕ) (h : ℕ) (ks : List ℕ) (at n size ru
   pub stops : at < length file → line_of wide (drop at file) ≡ None → (e : Refusal) → e ≡ Unreadable (n + 2) → Keeps (Err e) ks (script_in wide h file 2)
   stops more g e f =
       let z = walking.stops wide file h l.rows at n run s l.walk more None s (faulted run at s (line_of wide (drop at file)) g) refl in
-      (f ∙ ap Unreadable z, omega (arith, z))
+      (l.places, f ∙ ap Unreadable z, omega (arith, z))
 
   -- a line follows: few came before it
   pub few : at < length file → n ≤ 3639

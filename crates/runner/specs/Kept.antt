@@ -28,4 +28,4 @@ pub record Answered (r : Played) (kept : List ℕ) (p : Script) : Type 0 where
 -- what playing a script leaves: these, or its first fault
 abbrev pub Plays : Result Played Refusal → List ℕ → Script → Type 0
 Plays (Ok r) kept p = (length kept ≡ 3639) × Answered r kept p
-Plays (Err e) kept p = (e ≡ Unreadable (fault_of p)) × (0 < fault_of p)
+Plays (Err e) kept p = (length kept ≡ 3639) × (e ≡ Unreadable (fault_of p)) × (0 < fault_of p)

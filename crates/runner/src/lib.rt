@@ -42,7 +42,7 @@ fn play(file: &[u8], wide: bool, h: usize, kept: &mut Kept) -> Result<Played, Re
     let mut run: u8 = 0;
     let mut n: usize = 0;
     let mut total: usize = 16;
-    // by hand: each turn goes on by the length of the line that it reads
+    // by hand: each turn goes on by the length of the line that it reads; and not by walk::play_line, whose struct was slower here
     let mut at = h;
     while at < file.len() {
         let Some(

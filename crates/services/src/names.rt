@@ -71,6 +71,7 @@ fn semaphore_name(s: &[u8]) -> Option<Name>
     }
 }
 
+// Where two names have one key: no `or_else`, as what its closure promises did not reach the goal.
 fn flag_name(s: &[u8]) -> Option<Name>
     ensures { result ≡ name_in flags 24 s.now }
 {

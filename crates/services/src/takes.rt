@@ -78,7 +78,7 @@ fn takes_d(number: u32) -> Takes
     }
 }
 
-// A place is an index into the fields of a line, and model's table is asked by it.
+// A place is an index into the fields of a line, by which model's table is asked: an enum of places would be turned into it here.
 pub fn takes_at(number: u32, place: u8) -> Takes
     ensures { result ≡ takes_at number place }
 {

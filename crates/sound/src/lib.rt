@@ -85,7 +85,7 @@ fn slices_sound(numbers: &Numbers) -> bool
 {
     let mut sound = true;
     for slice in &numbers.slices {
-        let here = sound_parts::record::slice_sound(*slice);
+        let here = checks::is_slice(*slice);
         sound = here & sound;
     }
     sound

@@ -27,6 +27,6 @@ pub fn flag_sound(attributes: u32, bits: u32, first: u8, second: u8) -> bool
 pub fn is_unmet(w: Wait, bits: u32) -> bool
     ensures { result ≡ is_unmet w bits }
 {
-    let met = records::is_met(w.pattern, w.mode as u32, bits);
+    let met = records::is_met(w.pattern, u32::from(w.mode), bits);
     (w.kind != FLAG) | !met
 }

@@ -1,4 +1,4 @@
-// The tests of single parts of a state: one record and its charge, a level's slice, a semaphore's count, place 0, one event flag, one data
+// The tests of single parts of a state: one record and its charge, a semaphore's count, place 0, one event flag, one data
 // queue, and a wait on either.
 // Each function is a definition of model/specs/Test, Task or Row, or a line of one, for every value; it rests on model and records.
 #![tactic(auto)]

@@ -1,13 +1,14 @@
-// The tests of one task's record and its charge, of a level's slice, of a semaphore's count, and of what stands at place 0.
+// The tests of one task's record and its charge, of a semaphore's count, and of what stands at place 0.
 // Each function is a definition of model/specs/Test, for every value; it rests on model, and on records for the numbers of waits and codes.
 ghost use Rattle.std.specs.Prelude.{◌≡◌, ◌&&◌, eqb};
-ghost use Rattle.model.specs.Plan.{within, is_slice};
+ghost use Rattle.model.specs.Plan.{within};
 ghost use Rattle.model.specs.Test.{is_no_wait, is_blank, is_wait_code, is_resting, is_wait_sound, is_ask_sound, is_spare_sound, is_task_sound, is_charge_sound, is_count_sound};
 
 use crate::queue::is_queue_wait;
 use model::{Task, Wait};
 use records::{DLT, FLAG, NOTHING, RELEASED, SEMAPHORE, SEND, SERVED, SLEEP, TIMEOUT};
 
+// As within of checks, of bytes: one test of both would widen each of these.
 #[tactic(auto, unfolding(model::specs::Plan::within))]
 fn is_within(low: u8, n: u8, top: u8) -> bool
     ensures { result ≡ within low n top }
@@ -142,12 +143,6 @@ pub fn task_sound(x: Task) -> bool
         & wait_sound
         & ask_sound
         & spare_sound
-}
-
-pub fn slice_sound(slice: u32) -> bool
-    ensures { result ≡ is_slice slice }
-{
-    slice <= 1000
 }
 
 // The charge of task t, in whose level `first` stands first.

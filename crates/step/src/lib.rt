@@ -59,7 +59,7 @@ fn queue_in(s: &mut State, run: u8, c: Context, queue: u32, service: QueueServic
     }
 }
 
-// The step where `run` runs: whoever takes step after step knows that from the last one.
+// The step where `run` runs: whoever takes step after step knows that from the last one, so it goes beside the state and no struct holds the two.
 pub fn step_in(s: &mut State, run: u8, c: Context, a: Call) -> Stepped
     ensures { answer_of result s.new ≡ step_from run s.old c a }
 {

@@ -5,4 +5,4 @@ use Rattle.crossing.specs.Crossing.{crosses_all}
 use Rattle.crossing.proofs.cross_all.Given as goal
 
 abbrev pub invariant-loop-l : goal.invariant-loop-l
-invariant-loop-l l = (length l.rest ≡ 25) × (crosses_all 0 l.ls l.initial.rest ≡ crosses_all l.l (drop l.l l.ls) l.rest)
+invariant-loop-l l = (length l.wants ≡ 25) × (crosses_all 0 l.ls l.initial.wants ≡ crosses_all l.l (drop l.l l.ls) l.wants)
