@@ -33,14 +33,10 @@ pub fn put_decimal(buf: &mut [u8], at: usize, n: u32) -> usize
         return at;
     }
     let end = at + digits;
-    // by hand: each digit goes straight to its place, the last one first, so that no scratch is needed
-    let mut k = end;
     let mut rest = n;
-    while 9 < rest {
-        k -= 1;
-        buf[k] = (48 + rest % 10) as u8;
+    for k in (at..end).rev() {
+        buf[k] = b'0' + (rest % 10) as u8;
         rest /= 10;
     }
-    buf[at] = (48 + rest) as u8;
     end
 }
