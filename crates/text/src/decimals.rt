@@ -25,6 +25,7 @@ pub fn width(n: u32) -> usize
 }
 
 // The digits of n from the place `at` on, and the place after them; without room nothing is written and the place stays.
+#[tactic(auto, unfolding(crate::specs::Bytes::put, crate::specs::Bytes::place_after), using(crate::proofs::Backwards::held_more, crate::proofs::Backwards::held_all))]
 pub fn put_decimal(buf: &mut [u8], at: usize, n: u32) -> usize
     ensures { (result ≡ place_after buf.old at (decimal n)) × (buf.new ≡ put buf.old at (decimal n)) }
 {
