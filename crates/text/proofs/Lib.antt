@@ -5,3 +5,4 @@ pub mod Digits
 pub mod Stores
 pub mod RoundTrip
 pub mod Printed
+pub mod Backwards

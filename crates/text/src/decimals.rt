@@ -25,6 +25,7 @@ pub fn width(n: u32) -> usize
 }
 
 // The digits of n from the place `at` on, and the place after them; without room nothing is written and the place stays.
+#[tactic(auto, unfolding(crate::specs::Bytes::put, crate::specs::Bytes::place_after), using(crate::proofs::Backwards::held_more, crate::proofs::Backwards::held_all))]
 pub fn put_decimal(buf: &mut [u8], at: usize, n: u32) -> usize
     ensures { (result ≡ place_after buf.old at (decimal n)) × (buf.new ≡ put buf.old at (decimal n)) }
 {
@@ -33,14 +34,10 @@ pub fn put_decimal(buf: &mut [u8], at: usize, n: u32) -> usize
         return at;
     }
     let end = at + digits;
-    // by hand: each digit goes straight to its place, the last one first, so that no scratch is needed
-    let mut k = end;
     let mut rest = n;
-    while 9 < rest {
-        k -= 1;
-        buf[k] = (48 + rest % 10) as u8;
+    for k in (at..end).rev() {
+        buf[k] = b'0' + (rest % 10) as u8;
         rest /= 10;
     }
-    buf[at] = (48 + rest) as u8;
     end
 }

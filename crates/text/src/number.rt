@@ -23,7 +23,7 @@ fn numeral(first: u8, value: u32, n: usize) -> Option<Number>
     if n == 1 {
         return Some(Number { value, next: n });
     }
-    if first == 48 {
+    if first == b'0' {
         return None;
     }
     Some(Number { value, next: n })
