@@ -33,7 +33,7 @@ pub struct Played {
 }
 
 // ---- the calls, each worked once
-// The lines after the header, which has h bytes and says whether they are wide: their answers, or the first line that can't be read.
+// The lines after the header, which has h bytes and says whether they are wide (by themselves, since what is kept speaks of any h): their answers, or the first line that can't be read.
 fn play(file: &[u8], wide: bool, h: usize, kept: &mut Kept) -> Result<Played, Refusal>
     requires { (h < length file.now → 18 ≤ h) × (h ≤ length file.now) × (length file.now ≤ 65536) × (length kept.old ≡ 3639) }
     ensures { Plays result kept.new (script_in wide h file.now 2) }

@@ -28,7 +28,7 @@ fn is_unserved_in(s: &State, w: Wait) -> bool
 }
 
 // What a walk over the records sees: whether each is sound, whether its charge is, whether no wait on a flag is met already and none on a
-// data queue could be served, and which level and which row list each task.
+// data queue could be served, and which level and which row list each task, each of the two whole, as crossing takes it.
 #[derive(Clone, Copy)]
 struct Seen {
     sound: bool,
