@@ -29,15 +29,13 @@ pub fn element_at(elements: &Elements, q: usize, i: usize) -> u32
 
 // All places move up: the first leaves, and the last is free. As rows::close, of words: a gap is defined of numbers (model/specs/Row), so one function of
 // any type would need a second definition and a law that ties the two.
-#[tactic(auto, unfolding(model::specs::DataQueue::pulled), using(laws::proofs::Row::gap_on, laws::proofs::Row::gap_last))]
+#[tactic(auto, using(crate::proofs::Moves::pulled_up))]
 fn pull(ps: &mut [u32])
     requires { 0 < length ps.old }
     ensures { ps.new ≡ pulled ps.old }
 {
     let last = ps.len() - 1;
-    for i in 0..last {
-        ps[i] = ps[i + 1];
-    }
+    ps.copy_within(1.., 0);
     ps[last] = 0;
 }
 

@@ -17,6 +17,7 @@ pub fn read<T: Copy>(xs: &[T], i: usize, none: T) -> T
 pub fn put<T: Copy>(xs: &mut [T], i: usize, v: T)
     ensures { xs.new ≡ set xs.old i v }
 {
+    // an index test: tried by `get_mut`, whose goals name values of Rattle's own
     if xs.len() <= i {
         return;
     }

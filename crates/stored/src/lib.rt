@@ -15,7 +15,7 @@ pub fn record_at(tasks: &[Task], t: usize) -> Task
     read(tasks, t, records::no_task())
 }
 
-// ---- one word of a record is replaced, or its two marks, and nothing else of it
+// ---- one word of a record is replaced, or its two marks, and nothing else of it; by an index test, as places::put
 // What is left of a task's timeout,
 pub fn put_remaining(tasks: &mut [Task], t: usize, left: u32)
     ensures { tasks.new ≡ set tasks.old t (with_remaining (get_or tasks.old t no_task) left) }
