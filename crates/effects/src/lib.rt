@@ -7,7 +7,7 @@ ghost use Rattle.model.specs.Row.{second_of};
 ghost use Rattle.model.specs.Task.{ran_out};
 ghost use Rattle.model.specs.State.{moved, moved_from};
 ghost use Rattle.model.specs.Effect.{charged, lapsed, told_all};
-ghost use Rattle.effects.specs.Falling.{fallen};
+ghost use Rattle.effects.specs.Falling.{stays, all_stay, fallen, is_due, fall_all};
 
 use model::{News, Queue, State, Task};
 use places::{put, read};
@@ -95,10 +95,57 @@ fn fallen(n: u32) -> u32
     n - 1
 }
 
+// A tick leaves a timeout that is none, or that never ends.
+#[tactic(auto, unfolding(crate::specs::Falling::stays))]
+fn stays(n: u32) -> bool
+    ensures { result ≡ stays n }
+{
+    n == 0 || n == ENDLESS
+}
+
+// Whether it leaves all of them.
+fn all_stay(tasks: &[Task; 25]) -> bool
+    ensures { result ≡ all_stay 24 1 tasks.now }
+{
+    for t in 1..25 {
+        if !stays(tasks[t].wait.remaining) {
+            return false;
+        }
+    }
+    true
+}
+
+// Whether any timeout ends with the next tick. By a loop with no way out, and not by `any`, so that no jump stands between two records.
+fn is_due(tasks: &[Task; 25]) -> bool
+    ensures { result ≡ is_due 24 1 tasks.now }
+{
+    let mut due = false;
+    for t in 1..25 {
+        due |= tasks[t].wait.remaining == 1;
+    }
+    due
+}
+
+// All timeouts of a tick that ends none: no test and no call between two stores.
+fn fall(tasks: &mut [Task; 25])
+    ensures { tasks.new ≡ fall_all 24 1 tasks.old }
+{
+    for t in 1..25 {
+        tasks[t].wait.remaining = fallen(tasks[t].wait.remaining);
+    }
+}
+
 // Tasks 1 to 24 in ascending number: each finite timeout falls by 1, and those reaching 0 end.
 pub fn lapse(s: &mut State)
     ensures { s.new ≡ lapsed 24 1 s.old }
 {
+    if all_stay(&s.tasks) {
+        return;
+    }
+    if !is_due(&s.tasks) {
+        fall(&mut s.tasks);
+        return;
+    }
     for t in 1..25 {
         let k = record_at(&s.tasks, t);
         let n = k.wait.remaining;
