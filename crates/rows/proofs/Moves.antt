@@ -1,12 +1,13 @@
--- What a slice's own copy makes of a row whose last place is then emptied: the gap of model/specs/Row.
+-- What a slice's own copy makes of a row whose last place is then emptied: the gap of model/specs/Row; and a row turned by such a gap.
 use mathlib.Core.Path.{◌≡◌, refl, ap}
 use mathlib.Core.List.{List, [], ◌∷◌, ◌++◌}
 use Prim.Native.Nat.{ℕ, zero, suc, ◌+◌, ◌-◌, ◌<◌}
 use native.Mathlib.Omega.{arith}
-use lib.ListN.{length, set, drop, take}
+use lib.ListN.{get_or, length, set, drop, take}
 use lib.Seq.{take-length}
 use Rattle.std.specs.List.{copy_within}
-use Rattle.model.specs.Row.{gap}
+use borrow.Author.Tests.{eq-eqb}
+use Rattle.model.specs.Row.{gap, joined, turned, left, place}
 
 -- all but the first, and then the last place again, which is emptied
 all : (q : List ℕ) (x : ℕ) → set (q ++ drop (length q) (x ∷ q)) (length q) 0 ≡ q ++ 0 ∷ []
@@ -28,3 +29,9 @@ moved_up q i h =
     let a : i + 1 ≡ suc i = omega arith in
     let e : length q - 1 ≡ i + (length q - suc i) = omega arith in
     rw (a, e) (behind q i h (length q - suc i) (i + (length q - suc i)) (omega arith) refl)
+
+-- the first leaves from place 0, and goes last
+pub turned_first : (q : List ℕ) → joined (gap q 0) (get_or q 0 0) ≡ turned q
+unfolding turned left place
+turned_first [] = refl
+turned_first (x ∷ q) = rw (eq-eqb x x refl)
