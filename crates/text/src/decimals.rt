@@ -25,7 +25,7 @@ pub fn width(n: u32) -> usize
 }
 
 // The digits of n from the place `at` on, and the place after them; without room nothing is written and the place stays.
-#[tactic(auto, unfolding(crate::specs::Bytes::put, crate::specs::Bytes::place_after), using(crate::proofs::Backwards::held_more, crate::proofs::Backwards::held_all))]
+#[tactic(auto, unfolding(crate::specs::Bytes::put, crate::specs::Bytes::place_after))]
 pub fn put_decimal(buf: &mut [u8], at: usize, n: u32) -> usize
     ensures { (result ≡ place_after buf.old at (decimal n)) × (buf.new ≡ put buf.old at (decimal n)) }
 {
@@ -35,9 +35,11 @@ pub fn put_decimal(buf: &mut [u8], at: usize, n: u32) -> usize
     }
     let end = at + digits;
     let mut rest = n;
-    for k in (at..end).rev() {
+    for k in (at + 1..end).rev() {
         buf[k] = b'0' + (rest % 10) as u8;
         rest /= 10;
     }
+    // the first digit by itself: most numbers of an answer have no other
+    buf[at] = b'0' + rest as u8;
     end
 }
