@@ -24,6 +24,7 @@ use prog.Routine.{Routine}
 use prog.Wired.{Wired, Code}
 use types.Logic.{Logic}
 use contract.Monad.{Fun, conj, fact}
+use contract.BorrowLft.{◌⊑◌}
 use contract.Lifetimes.{Lfts}
 use contract.Running.{Running}
 use denote.Exit.{yes, Last}
@@ -107,14 +108,15 @@ pub record Promise : Type 3 where
   pub kept : Keeps (told signature) contract name code
   pub tight : Tight signature contract
 
--- that of a function with type parameters, at each of them. What it asks is that values of the type outlive the borrow, which the compiler sees to;
--- and of a parameter by value of that type it says nothing at the end.
-pub record GenericPromise : Type 3 where
+-- that of a function with a type parameter T, at each type. All that it asks is that values of T outlive the borrow, which the compiler sees to; a type
+-- that borrows nothing meets it of itself (proofs/Generic). Of a parameter by value of that type it says nothing at the end.
+pub record GenericPromise (T : RattleType) : Type 3 where
   pub ended : Ended
   pub contract : ContractOf ended
   pub name : Callee
   pub code : Code
   pub kept : Keeps ended contract name code
+  pub borrow : Lfts ended.signature.lifetimes → Lft
   pub tight :
       (w : World) (κs : Lfts ended.signature.lifetimes) (a : Args ended.signature κs) (g h : (clauses ended contract w κs a).ghost) (o p : Outcome ended contract κs a) →
-      Coincide ended contract w κs a g h o p
+      (borrow κs ⊑ T.lives → Open ended contract w κs a g) × Coincide ended contract w κs a g h o p
