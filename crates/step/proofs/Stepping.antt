@@ -1,4 +1,4 @@
--- A step over lent tables, from what its parts say: who runs, the records looked at, the plan, and its effect.
+-- A step on a lent state, from what its parts say: who runs, the records looked at, the plan, and its effect.
 -- Rests on the definitions of model/specs/Call alone.
 use mathlib.Core.Path.{◌≡◌, sym, ap, ◌∙◌}
 use Prim.Native.Nat.{ℕ}
