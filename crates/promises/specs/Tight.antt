@@ -108,15 +108,16 @@ pub record Promise : Type 3 where
   pub kept : Keeps (told signature) contract name code
   pub tight : Tight signature contract
 
--- that of a function with a type parameter T, at each type. All that it asks is that values of T outlive the borrow, which the compiler sees to; a type
--- that borrows nothing meets it of itself (proofs/Generic). Of a parameter by value of that type it says nothing at the end.
+-- that of a function with a type parameter T, at each type. All that it asks is that values of T last for one lifetime of its signature, `span`, which
+-- the compiler picks: no longer than the borrow that it lends them for, and each row says which it is. A type that borrows nothing meets it of itself
+-- (proofs/Generic). Of a parameter by value of that type it says nothing at the end.
 pub record GenericPromise (T : RattleType) : Type 3 where
   pub ended : Ended
   pub contract : ContractOf ended
   pub name : Callee
   pub code : Code
   pub kept : Keeps ended contract name code
-  pub borrow : Lfts ended.signature.lifetimes → Lft
+  pub span : Lfts ended.signature.lifetimes → Lft
   pub tight :
       (w : World) (κs : Lfts ended.signature.lifetimes) (a : Args ended.signature κs) (g h : (clauses ended contract w κs a).ghost) (o p : Outcome ended contract κs a) →
-      (borrow κs ⊑ T.lives → Open ended contract w κs a g) × Coincide ended contract w κs a g h o p
+      (span κs ⊑ T.lives → Open ended contract w κs a g) × Coincide ended contract w κs a g h o p
