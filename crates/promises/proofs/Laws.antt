@@ -1,7 +1,6 @@
 -- The law behind every row of the table: what equals the same is the same, and so is what is read off it.
 -- Rests on the statement in specs/Tight.
 use mathlib.Core.Path.{◌≡◌, sym, ◌∙◌, ap}
-use mathlib.Core.Bool.{cond}
 use mir.Syntax.{Callee}
 use prog.Wired as wired
 use base.Logic.{ent, emp, sep, via, fst∗, snd∗, id⊢}
@@ -13,8 +12,8 @@ use borrow.Fn.World.{World}
 use Rattle.std.specs.Prelude.{Result, Ok, Err}
 use Rattle.model.specs.declared.Code.{Code}
 use Rattle.model.specs.declared.Plan.{Plan}
-use Rattle.model.specs.Code.{is_refusal}
 use Rattle.checks.specs.Gate.{plan_of, IsDecision}
+use Rattle.promises.specs.Decision.{decision_of, OneEquation}
 use Rattle.promises.specs.Tight.{told, Contract, Keeps, Outcome, clauses, Open, Coincide, Promise}
 
 -- a row whose outcomes coincide, of their types or not
@@ -79,16 +78,16 @@ besides p q = both (p.0, p.1.0) (q.0, q.1.0)
 pub answer : {A B U : Type 0} {r s d : A} {q t e : B} {u : U} → (r ≡ d) × (q ≡ e) → (s ≡ d) × (t ≡ e) → ◌≡◌ {A = A × (Unit {0} × (B × U))} (r, (tt, (q, u))) (s, (tt, (t, u)))
 answer {u = u} p q i = (fixed (λ x. x) p.0 q.0 i, (tt, (fixed (λ x. x) p.1 q.1 i, u)))
 
--- a decision: its two clauses, which plan it comes to and that its code says whether it is accepted, are one equation of the result
-abbrev decision_of : Plan → Result Plan Code
-decision_of d = cond (is_refusal d.code) (Err d.code) (Ok d)
+-- a decision: its two clauses, which plan it comes to and that its code says whether it is accepted, give one equation of the result
+one : (r : Result Plan Code) (d : Plan) → plan_of r ≡ d → IsDecision r → r ≡ decision_of d
+one (Ok p) d e h = rw (← e, h)
+one (Err c) d e h = rw (← e, h)
 
-pub one_equation : (r : Result Plan Code) (d : Plan) → plan_of r ≡ d → IsDecision r → r ≡ decision_of d
-one_equation (Ok p) d e h = rw (← e, h)
-one_equation (Err c) d e h = rw (← e, h)
+pub one_equation : OneEquation
+one_equation = one
 
 pub decided : {U : Type 0} {r s : Result Plan Code} {d : Plan} {u : U} → plan_of r ≡ d → IsDecision r → plan_of s ≡ d → IsDecision s → ◌≡◌ {A = Result Plan Code × U} (r, u) (s, u)
-decided {r = r} {s = s} {d = d} p h q k = result (one_equation r d p h) (one_equation s d q k)
+decided {r = r} {s = s} {d = d} p h q k = result (one r d p h) (one s d q k)
 
 -- the result and what the first holds, both read off what the promise fixes
 pub answers : {R S A U : Type 0} (result_of : A → R) (held_of : A → S) {r s : A} (x y : A) {d : A} {u : U}
