@@ -1,7 +1,7 @@
 -- A tick's timeouts: one turn of the loop over them, in which one falls or the wait with it ends, and all of them at once where none falls or none ends.
 -- Rests on Moving.
 use mathlib.Core.Path.{◌≡◌, refl, sym, ap, ◌∙◌}
-use mathlib.Core.Bool.{Bool, true, false, cond, ◌||◌, or_assoc, or-false, true≢false}
+use mathlib.Core.Bool.{Bool, true, false, cond, ◌||◌, true≢false}
 use mathlib.Core.List.{List}
 use mathlib.Core.Logic.{⊎_elim}
 use Prim.Native.Nat.{ℕ, zero, suc, ◌+◌, ◌-◌, ◌≤◌, ◌<◌}
@@ -78,18 +78,24 @@ all_fall (suc n) t s e =
     ∙ ap (lapsed n (suc t)) (sym (falls_at s t d.0))
 
 -- ---- the two loops over them
-pub due_on : (due : Bool) (t : ℕ) (xs : List Task) (r : Bool) → t < 25 → due || is_due (25 - t) t xs ≡ r → (due || eqb (get_or xs t no_task).wait.remaining 1) || is_due (25 - (t + 1)) (t + 1) xs ≡ r
-unfolding is_due
-due_on due t xs r h i =
-    let e : 25 - t ≡ suc (25 - suc t) = omega arith in
-    let j : due || (eqb (get_or xs t no_task).wait.remaining 1 || is_due (25 - suc t) (suc t) xs) ≡ r = rw e at i in
-    rw (add-one t) (or_assoc due (eqb (get_or xs t no_task).wait.remaining 1) (is_due (25 - suc t) (suc t) xs) ∙ j)
+module _ (t : ℕ) (xs : List Task) (r : Bool) (i : is_due (25 - t) t xs ≡ r) where
+  pub due_on : t < 25 → eqb (get_or xs t no_task).wait.remaining 1 ≡ false → is_due (25 - (t + 1)) (t + 1) xs ≡ r
+  unfolding is_due
+  due_on h b =
+      let e : 25 - t ≡ suc (25 - suc t) = omega arith in
+      let j : eqb (get_or xs t no_task).wait.remaining 1 || is_due (25 - suc t) (suc t) xs ≡ r = rw e at i in
+      rw (add-one t) (rw b at j)
 
-pub due_end : (due : Bool) (t : ℕ) (xs : List Task) (r : Bool) → 25 ≤ t → due || is_due (25 - t) t xs ≡ r → due ≡ r
-unfolding is_due
-due_end due t xs r h i =
-    let e : 25 - t ≡ 0 = omega arith in
-    sym (or-false due) ∙ (rw e at i)
+  pub due_off : t < 25 → eqb (get_or xs t no_task).wait.remaining 1 ≡ true → true ≡ r
+  unfolding is_due
+  due_off h b =
+      let e : 25 - t ≡ suc (25 - suc t) = omega arith in
+      let j : eqb (get_or xs t no_task).wait.remaining 1 || is_due (25 - suc t) (suc t) xs ≡ r = rw e at i in
+      rw b at j
+
+  pub due_end : 25 ≤ t → false ≡ r
+  unfolding is_due
+  due_end h = let e : 25 - t ≡ 0 = omega arith in rw e at i
 
 pub fall_on : (t : ℕ) (xs zs : List Task) → t < 25 → fall_all (25 - t) t xs ≡ zs
     → fall_all (25 - (t + 1)) (t + 1) (set xs t (with_remaining (get_or xs t no_task) (fallen (get_or xs t no_task).wait.remaining))) ≡ zs

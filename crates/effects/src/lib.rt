@@ -115,15 +115,23 @@ fn all_stay(tasks: &[Task; 25]) -> bool
     true
 }
 
-// Whether any timeout ends with the next tick. By a loop with no way out, and not by `any`, so that no jump stands between two records.
+// One ends with the next tick,
+fn ends(n: u32) -> bool
+    ensures { result ≡ eqb n 1 }
+{
+    n == 1
+}
+
+// and whether any does.
 fn is_due(tasks: &[Task; 25]) -> bool
     ensures { result ≡ is_due 24 1 tasks.now }
 {
-    let mut due = false;
     for t in 1..25 {
-        due |= tasks[t].wait.remaining == 1;
+        if ends(tasks[t].wait.remaining) {
+            return true;
+        }
     }
-    due
+    false
 }
 
 // All timeouts of a tick that ends none: no test and no call between two stores.
@@ -147,12 +155,12 @@ pub fn lapse(s: &mut State)
         return;
     }
     for t in 1..25 {
-        let k = record_at(&s.tasks, t);
-        let n = k.wait.remaining;
+        let n = s.tasks[t].wait.remaining;
         if n != 1 {
             put_remaining(&mut s.tasks, t, fallen(n));
             continue;
         }
+        let k = record_at(&s.tasks, t);
         let x = records::ended(k, ran_out(k), 0);
         move_from(s, t as u8, k, x);
     }
